@@ -3,22 +3,26 @@
 
 use async_task::{Builder, FallibleTask, Runnable, ScheduleInfo, Task, WithInfo};
 use std::cell::{Cell, RefCell};
+use std::collections::{HashMap, VecDeque};
 use std::fmt;
 use std::future::Future;
 use std::io::{BufRead, Write};
 use std::mem::ManuallyDrop;
 use std::panic::{AssertUnwindSafe, catch_unwind};
 use std::pin::Pin;
-use std::sync::{Arc, Mutex};
+use std::rc::{Rc, Weak};
 use std::task::{Context, Poll, RawWaker, RawWakerVTable, Waker};
+
+/// How deep calls are made inside foreign code.
+const DEPTH: usize = 2;
 
 /// The words of what happened so far.
 #[derive(Default)]
-struct Log(Mutex<String>);
+struct Log(RefCell<String>);
 
 impl Log {
     fn note(&self, word: &str) {
-        let mut text = self.0.lock().unwrap();
+        let mut text = self.0.borrow_mut();
         text.push_str(word);
         text.push(' ');
     }
@@ -32,8 +36,8 @@ impl Log {
     }
 }
 
-/// Notes a word when it is dropped.
-struct Noted(Arc<Log>, &'static str);
+/// Notes a word when it is dropped, and makes the calls that the script has for this moment.
+struct Noted(Rc<Handles>, &'static str, &'static str);
 
 impl fmt::Debug for Noted {
     fn fmt(&self, f: &mut fmt::Formatter<'_>) -> fmt::Result {
@@ -43,52 +47,57 @@ impl fmt::Debug for Noted {
 
 impl Drop for Noted {
     fn drop(&mut self) {
-        self.0.note(self.1);
+        self.0.log.note(self.1);
+        self.0.reach(self.2);
     }
 }
 
-/// An awaiter: its number, and where it notes what is done to its clones.
-struct Awaiter(u8, Arc<Log>);
+/// An awaiter: its number, and whose it is.
+struct Awaiter(u8, Weak<Handles>);
 
 impl Awaiter {
     const TABLE: RawWakerVTable =
         RawWakerVTable::new(Self::clone, Self::wake, Self::wake_by_ref, Self::drop);
 
     /// A waker of this awaiter. It is never dropped, since only drops of clones are noted.
-    fn waker(number: u8, log: &Arc<Log>) -> ManuallyDrop<Waker> {
-        let awaiter = Arc::new(Awaiter(number, log.clone()));
-        let data = Arc::into_raw(awaiter).cast();
+    fn waker(number: u8, handles: &Weak<Handles>) -> ManuallyDrop<Waker> {
+        let awaiter = Rc::new(Awaiter(number, handles.clone()));
+        let data = Rc::into_raw(awaiter).cast();
         ManuallyDrop::new(unsafe { Waker::from_raw(RawWaker::new(data, &Self::TABLE)) })
     }
 
-    unsafe fn note(data: *const (), word: &str) {
-        let Awaiter(number, log) = unsafe { &*data.cast::<Awaiter>() };
-        log.note(&format!("{word}{number}"));
+    unsafe fn note(data: *const (), word: &str, moment: &str) {
+        let Awaiter(number, handles) = unsafe { &*data.cast::<Awaiter>() };
+        let Some(handles) = handles.upgrade() else {
+            return;
+        };
+        handles.log.note(&format!("{word}{number}"));
+        handles.reach(moment);
     }
 
     unsafe fn clone(data: *const ()) -> RawWaker {
         unsafe {
-            Self::note(data, "cloned");
-            Arc::increment_strong_count(data.cast::<Awaiter>());
+            Self::note(data, "cloned", "in_awaiter_clone");
+            Rc::increment_strong_count(data.cast::<Awaiter>());
         }
         RawWaker::new(data, &Self::TABLE)
     }
 
     unsafe fn wake(data: *const ()) {
         unsafe {
-            Self::note(data, "woken");
-            Arc::decrement_strong_count(data.cast::<Awaiter>());
+            Self::note(data, "woken", "in_awaiter_wake");
+            Rc::decrement_strong_count(data.cast::<Awaiter>());
         }
     }
 
     unsafe fn wake_by_ref(data: *const ()) {
-        unsafe { Self::note(data, "woken_by_ref") }
+        unsafe { Self::note(data, "woken_by_ref", "in_awaiter_wake") }
     }
 
     unsafe fn drop(data: *const ()) {
         unsafe {
-            Self::note(data, "dropped");
-            Arc::decrement_strong_count(data.cast::<Awaiter>());
+            Self::note(data, "dropped", "in_awaiter_drop");
+            Rc::decrement_strong_count(data.cast::<Awaiter>());
         }
     }
 }
@@ -100,12 +109,13 @@ enum HeldTask {
     Cancel(Pin<Box<dyn Future<Output = Option<Noted>>>>),
 }
 
-/// The handles of the task of a script, which its future and its schedule function share.
+/// The handles of the task of a script, which the values of the task share.
 struct Handles {
-    log: Arc<Log>,
-    way: String,
-    polls: Vec<String>,
+    log: Log,
+    script: Script,
     next: Cell<usize>,
+    inside: RefCell<HashMap<String, VecDeque<Vec<String>>>>,
+    depth: Cell<usize>,
     awaiters: [ManuallyDrop<Waker>; 2],
     runnable: Cell<Option<Runnable<Noted>>>,
     wakers: RefCell<Vec<Waker>>,
@@ -113,9 +123,9 @@ struct Handles {
 }
 
 /// The future, which does what the script says.
-struct ScriptFuture<'x>(&'x Handles, #[allow(dead_code)] Noted);
+struct ScriptFuture(Rc<Handles>, #[allow(dead_code)] Noted);
 
-impl Future for ScriptFuture<'_> {
+impl Future for ScriptFuture {
     type Output = Noted;
 
     fn poll(self: Pin<&mut Self>, context: &mut Context<'_>) -> Poll<Noted> {
@@ -123,7 +133,7 @@ impl Future for ScriptFuture<'_> {
         log.begin("future_polled");
         if self.0.play_poll(context.waker()) {
             log.end("ready");
-            Poll::Ready(Noted(log.clone(), "output_dropped"))
+            Poll::Ready(Noted(self.0.clone(), "output_dropped", "in_output_drop"))
         } else {
             log.end("pending");
             Poll::Pending
@@ -132,29 +142,53 @@ impl Future for ScriptFuture<'_> {
 }
 
 impl Handles {
-    fn spawn(&self) {
-        let future = ScriptFuture(self, Noted(self.log.clone(), "future_dropped"));
-        let told = Noted(self.log.clone(), "schedule_dropped");
+    fn spawn(self: &Rc<Self>) {
+        let noted = |word, moment| Noted(self.clone(), word, moment);
+        let dropped = noted("future_dropped", "in_future_drop");
+        let future = ScriptFuture(self.clone(), dropped);
+        let told = noted("schedule_dropped", "in_schedule_drop");
         let schedule = move |runnable: Runnable<Noted>, info: ScheduleInfo| {
-            told.0.note(if info.woken_while_running { "scheduled_woken" } else { "scheduled" });
-            if self.way == "shows" {
-                self.log.note(&format!("{runnable:?}"));
+            let handles = &told.0;
+            handles.log.begin(if info.woken_while_running { "scheduled_woken" } else { "scheduled" });
+            if handles.script.way == "shows" {
+                handles.log.note(&format!("{runnable:?}"));
             }
-            if self.way == "drops" {
+            if handles.script.way == "drops" {
                 drop(runnable);
             } else {
-                self.runnable.set(Some(runnable));
+                handles.runnable.set(Some(runnable));
             }
+            handles.reach("in_schedule");
+            handles.log.end("");
         };
-        let builder = Builder::new().metadata(Noted(self.log.clone(), "metadata_dropped"));
-        // All handles end before `self` does, and on this thread.
+        let metadata = noted("metadata_dropped", "in_metadata_drop");
+        let builder = Builder::new().metadata(metadata);
+        // All is on this thread.
         let (runnable, task) = unsafe { builder.spawn_unchecked(|_| future, WithInfo(schedule)) };
         self.runnable.set(Some(runnable));
         self.task.set(Some(HeldTask::Task(task)));
     }
 
+    /// Makes the calls that the script has next for this moment, unless foreign code is reached too deep.
+    fn reach(&self, moment: &str) {
+        if self.depth.get() >= DEPTH {
+            return;
+        }
+        let next = self.inside.borrow_mut().get_mut(moment).and_then(VecDeque::pop_front);
+        let Some(calls) = next else {
+            return;
+        };
+        self.depth.set(self.depth.get() + 1);
+        self.log.begin("inside");
+        for call in &calls {
+            self.call_outside(call);
+        }
+        self.log.end("");
+        self.depth.set(self.depth.get() - 1);
+    }
+
     fn play_poll(&self, lent: &Waker) -> bool {
-        while let Some(word) = self.polls.get(self.next.get()) {
+        while let Some(word) = self.script.polls.get(self.next.get()) {
             self.next.set(self.next.get() + 1);
             match word.as_str() {
                 "pending" => return false,
@@ -184,7 +218,9 @@ impl Handles {
                     self.noted("schedule", || runnable.schedule());
                 }
             }
-            "drop_runnable" => self.drop_runnable(),
+            "drop_runnable" => {
+                self.drop_runnable();
+            }
             "waker" => {
                 if let Some(runnable) = self.runnable.take() {
                     self.log.note("waker");
@@ -196,14 +232,10 @@ impl Handles {
         }
     }
 
+    /// Drops all handles that are left, also those that come meanwhile.
     fn end(&self) {
         self.log.begin("end");
-        let kept = self.wakers.borrow().len();
-        for _ in 0..kept {
-            self.call("drop_waker");
-        }
-        self.drop_task();
-        self.drop_runnable();
+        while self.drop_waker() || self.drop_task() || self.drop_runnable() {}
         self.log.end("");
     }
 
@@ -219,7 +251,9 @@ impl Handles {
                 self.keep(waker.clone());
                 self.keep(waker);
             }),
-            "drop_waker" => self.with_last(|waker| self.noted("drop_waker", || drop(waker))),
+            "drop_waker" => {
+                self.drop_waker();
+            }
             "poll0" => self.poll(call, &self.awaiters[0]),
             "poll1" => self.poll(call, &self.awaiters[1]),
             "fallible" => self.change(|task| match task {
@@ -236,7 +270,9 @@ impl Handles {
                 Some(HeldTask::Fallible(task)) => self.noted("detach", || task.detach()),
                 other => self.task.set(other),
             },
-            "drop_task" => self.drop_task(),
+            "drop_task" => {
+                self.drop_task();
+            }
             "is_finished" => self.look(|task| {
                 let answer = match task {
                     HeldTask::Task(task) => task.is_finished(),
@@ -285,16 +321,29 @@ impl Handles {
         self.task.set(task);
     }
 
-    fn drop_task(&self) {
-        if let Some(task) = self.task.take() {
-            self.noted("drop_task", || drop(task));
-        }
+    fn drop_waker(&self) -> bool {
+        let last = self.wakers.borrow_mut().pop();
+        let Some(waker) = last else {
+            return false;
+        };
+        self.noted("drop_waker", || drop(waker));
+        true
     }
 
-    fn drop_runnable(&self) {
-        if let Some(runnable) = self.runnable.take() {
-            self.noted("drop_runnable", || drop(runnable));
-        }
+    fn drop_task(&self) -> bool {
+        let Some(task) = self.task.take() else {
+            return false;
+        };
+        self.noted("drop_task", || drop(task));
+        true
+    }
+
+    fn drop_runnable(&self) -> bool {
+        let Some(runnable) = self.runnable.take() else {
+            return false;
+        };
+        self.noted("drop_runnable", || drop(runnable));
+        true
     }
 
     /// Polls what is left of the Task. A cancel that is ready is dropped, as a future that was awaited.
@@ -322,46 +371,65 @@ impl Handles {
     }
 }
 
-/// What happens in a script, whose words are those that `replay_calls` reads.
-fn play(script: &str) -> String {
-    let mut words = script.split_ascii_whitespace();
-    let way = words.next().unwrap_or("").to_string();
-    let (mut polls, mut calls, mut is_polled) = (Vec::new(), Vec::new(), false);
-    for word in words {
-        match word {
-            "polled" => is_polled = true,
-            "pending" | "ready" => {
-                polls.push(word.to_string());
-                is_polled = false;
+/// A script, as `replay_calls` reads it.
+#[derive(Default)]
+struct Script {
+    way: String,
+    polls: Vec<String>,
+    inside: HashMap<String, VecDeque<Vec<String>>>,
+    calls: Vec<String>,
+}
+
+fn read(text: &str) -> Script {
+    let mut words = text.split_ascii_whitespace().map(str::to_string);
+    let way = words.next().unwrap_or_default();
+    let mut script = Script { way, ..Script::default() };
+    while let Some(word) = words.next() {
+        if word == "polled" {
+            for word in words.by_ref() {
+                script.polls.push(word);
+                if matches!(script.polls.last().map(String::as_str), Some("pending" | "ready")) {
+                    break;
+                }
             }
-            _ if is_polled => polls.push(word.to_string()),
-            _ => calls.push(word),
+        } else if word.starts_with("in_") {
+            let calls = words.by_ref().take_while(|word| word != "done").collect();
+            script.inside.entry(word).or_default().push_back(calls);
+        } else {
+            script.calls.push(word);
         }
     }
-    let log = Arc::new(Log::default());
-    let handles = Handles {
-        way,
-        polls,
+    script
+}
+
+/// What happens in a script.
+fn play(text: &str) -> String {
+    let mut script = read(text);
+    let (inside, calls) = (std::mem::take(&mut script.inside), std::mem::take(&mut script.calls));
+    let handles = Rc::new_cyclic(|handles| Handles {
+        log: Log::default(),
+        script,
         next: Cell::new(0),
-        awaiters: [Awaiter::waker(0, &log), Awaiter::waker(1, &log)],
+        inside: RefCell::new(inside),
+        depth: Cell::new(0),
+        awaiters: [Awaiter::waker(0, handles), Awaiter::waker(1, handles)],
         runnable: Cell::new(None),
         wakers: RefCell::new(Vec::new()),
         task: Cell::new(None),
-        log,
-    };
+    });
     handles.spawn();
-    for call in calls {
+    for call in &calls {
         handles.call_outside(call);
     }
     handles.end();
-    handles.log.0.lock().unwrap().clone()
+    handles.log.0.take()
 }
 
 fn main() -> std::io::Result<()> {
     std::panic::set_hook(Box::new(|_| {}));
     let mut out = std::io::BufWriter::new(std::io::stdout());
     for line in std::io::stdin().lock().lines() {
-        writeln!(out, "{}", play(&line?))?;
+        writeln!(out, "{}", play(&line?).trim_end())?;
     }
     out.flush()
 }

@@ -22,7 +22,7 @@ CRATES = ("task_core", "task_laws", "task_progress", "task_steps", "task_cell", 
 EXCERPTS = ("docs/EXECUTOR_POOL.md", "crates/executor_parts/KIT.md") + tuple(f"crates/{name}/README.md" for name in CRATES)
 # the pages that name hardly anything but what this repository has, and what they name of the kit
 NAMING = WHOLE + EXCERPTS + (
-    "docs/API.md", "docs/ARCHITECTURE.md", "docs/DEVELOPING.md", "docs/EXAMPLES.md",
+    "CONTRIBUTING.md", "SECURITY.md", "docs/API.md", "docs/ARCHITECTURE.md", "docs/DEVELOPING.md", "docs/EXAMPLES.md",
     "docs/MACHINE.md", "docs/PROOFS.md", "docs/RULES.md", "crates/taskrows/README.md",
     "crates/replay_trace/README.md")
 OF_THE_KIT = {"from_event_fd", "from_raw_fd", "get_mut", "pop_front"}

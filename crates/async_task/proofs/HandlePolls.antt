@@ -1,5 +1,5 @@
 -- A poll that hands out what is made of the output has the same path.
-use Rattle.task_cell.proofs.Vocabulary.{◌≡◌, Bool, List, Option, Some, None, subst, TaskPoll, Deed, AnswerPath, waits, has_ended_since, has_output_since, PollPath, finds_output, finds_ended}
+use Rattle.task_cell.proofs.Vocabulary.{◌≡◌, Bool, List, Option, Result, Some, None, subst, TaskPoll, Deed, AnswerPath, waits, has_ended_since, has_output_since, PollPath, finds_output, finds_ended}
 use Rattle.task_core.specs.declared.traits.TaskPoll.TheVariants.{Pending as Waits, Ready, Refused}
 use Rattle.task_cell.specs.declared.cell.Party.{Party}
 use Rattle.task_cell.specs.PollPaths.{is_refused, looks_again}
@@ -12,7 +12,7 @@ answer_as f (Ready None) = Ready None
 answer_as f Waits = Waits
 answer_as f Refused = Refused
 
-module _ {A T U : Type 0} (f : T → U) (cloned : A → Option A → Type 0) (woken woken_by_ref : A → Type 0) (compared : A → A → Bool → Type 0) (awaiter : A) where
+module _ {A K T U : Type 0} (f : T → U) (cloned : A → Result A K → Type 0) (woken woken_by_ref : A → K → Type 0) (compared : A → A → Bool → Type 0) (awaiter : A) where
   answered_as : (path : List Deed) (answer : TaskPoll (Option T)) → AnswerPath woken compared awaiter path answer → AnswerPath woken compared awaiter path (answer_as f answer)
   answered_as _ _ (waits w e) = waits w e
   answered_as _ _ (has_ended_since w taken e t) = has_ended_since w taken e t
@@ -21,7 +21,7 @@ module _ {A T U : Type 0} (f : T → U) (cloned : A → Option A → Type 0) (wo
   polled_as : (path : List Deed) (answer : TaskPoll (Option T)) → PollPath cloned woken woken_by_ref compared awaiter path answer → PollPath cloned woken woken_by_ref compared awaiter path (answer_as f answer)
   polled_as _ _ (finds_output w path x c) = finds_output w path (f x) c
   polled_as _ _ (finds_ended w taken e t) = finds_ended w taken e t
-  polled_as _ _ (is_refused w e e' c) = is_refused w e e' c
+  polled_as _ _ (is_refused w told e e' c) = is_refused w told e e' c
   polled_as _ _ (looks_again w registered path answer e e' r a) = looks_again w registered path (answer_as f answer) e e' r (answered_as path answer a)
 
   -- .. where the answer is known

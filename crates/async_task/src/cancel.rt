@@ -4,6 +4,7 @@ ghost use Rattle.task_cell.specs.Belongs.{cell_of};
 ghost use Rattle.task_steps.specs.declared.table.Deed.{Deed};
 ghost use Rattle.task_steps.specs.Steps.{saw_over, saw_ended};
 ghost use Rattle.task_cell.specs.TaskPaths.{CancelPath};
+ghost use Rattle.task_cell.specs.Witnessed.{Witnesses};
 ghost use Rattle.task_cell.specs.Handed.{HandedOver};
 ghost use Rattle.async_task.specs.HandlePaths.{ClosesUnless, FindsFinished, PollsClosed, IfSomeOutput};
 ghost use Rattle.task_cell.specs.Calls.{Did, deeds, position};
@@ -12,6 +13,7 @@ use crate::task::Task;
 use std::alloc::{Allocator, Global};
 use std::sync::Wait;
 use task_cell::Runnable;
+use task_core::word::Word;
 use task_core::{Schedule, TaskPoll, Wake, Yields};
 
 /// A Task whose first poll cancels the task. Each poll answers as that of a `FallibleTask` does. Dropped, polled or not, it cancels the task.
@@ -72,13 +74,21 @@ where
         self.task.is_finished()
     }
 
+    /// The word as one load finds it. The clause `witness` says all that is proved of it: an interleaving of the machine, from the spawn of this task, ends in it, all laws hold there, and this Task did last in it what its calls have promised. Nothing changes. It waits for nobody.
+    pub fn witness(&mut self) -> Word
+        ensures witness { Witnesses self.old.task.inner.party result }
+        ensures same { (self.new.task.inner.share ≡ self.old.task.inner.share) × (self.new.task.inner.party ≡ self.old.task.inner.party) × (self.new.task.around ≡ self.old.task.around) × (self.new.cancelled ≡ self.old.cancelled) }
+    {
+        self.task.witness()
+    }
+
     /// Cancels the task, if no earlier poll did, and then answers with the output of a task that was completed before, or with `None` once the future of the task is gone.
     /// Otherwise a clone of `awaiter` is registered, to be woken then.
     ///
     /// The output meets what the type of the future states. After `None` each later poll answers the same.
     /// `Refused` says that the clone was refused: the task is cancelled all the same, nothing was registered, and an awaiter that an earlier poll registered is still woken.
     pub fn poll(&mut self, awaiter: &A) -> TaskPoll<Option<F::Output>>
-        ensures path { PollsClosed self.old.cancelled (CancelPath (HandedOver Q.scheduled (cell_of self.old.task.inner.share) self.old.task.around false) ((a : A) × A.woken a)) A.cloned A.woken A.woken_by_ref A.compared awaiter.now self.old.task.inner.party self.new.task.inner.party result }
+        ensures path { PollsClosed self.old.cancelled (CancelPath (HandedOver Q.scheduled (cell_of self.old.task.inner.share) self.old.task.around false) ((a : A) × (r : A.Record) × A.woken a r)) A.cloned A.woken A.woken_by_ref A.compared awaiter.now self.old.task.inner.party self.new.task.inner.party result }
         ensures meets { IfSomeOutput result (λ output. ∥ F.Yields.meets output ∥₁) }
         ensures ended { saw_ended (deeds self.old.task.inner.party) ≡ true → result ≡ TaskPoll.Ready None }
         ensures closed { result ≡ TaskPoll.Ready None → saw_ended (deeds self.new.task.inner.party) ≡ true }
@@ -92,7 +102,7 @@ where
 
     // Cancels the task, unless an earlier poll did.
     fn cancel_once(&mut self)
-        ensures path { (path : List Deed) × ClosesUnless self.old.cancelled (CancelPath (HandedOver Q.scheduled (cell_of self.old.task.inner.share) self.old.task.around false) ((a : A) × A.woken a)) path × Did path (position self.old.task.inner.party) self.old.task.inner.party self.new.task.inner.party }
+        ensures path { (path : List Deed) × ClosesUnless self.old.cancelled (CancelPath (HandedOver Q.scheduled (cell_of self.old.task.inner.share) self.old.task.around false) ((a : A) × (r : A.Record) × A.woken a r)) path × Did path (position self.old.task.inner.party) self.old.task.inner.party self.new.task.inner.party }
         ensures cancelled { self.new.cancelled ≡ true }
         ensures ended { saw_ended (deeds self.old.task.inner.party) ≡ true → saw_ended (deeds self.new.task.inner.party) ≡ true }
         ensures cell { self.new.task.inner.share ≡ self.old.task.inner.share }

@@ -8,12 +8,14 @@ ghost use Rattle.task_cell.specs.Belongs.{cell_of};
 ghost use Rattle.task_cell.specs.Calls.{Did, deeds};
 ghost use Rattle.task_cell.specs.Handed.{HandedOver};
 ghost use Rattle.task_cell.specs.TaskPaths.{CancelPath, DetachPath};
+ghost use Rattle.task_cell.specs.Witnessed.{Witnesses};
 
 use crate::cancel::Cancel;
 use crate::task::Task;
 use std::alloc::{Allocator, Global};
 use std::sync::Wait;
 use task_cell::{EndedCall, Kept, Runnable};
+use task_core::word::Word;
 use task_core::{Schedule, TaskPoll, Wake, Yields};
 
 /// A Task whose polls answer `None` where a Task's answer `TaskClosed`. Dropped, it cancels the task.
@@ -55,7 +57,7 @@ where
 
     /// Does what a drop does: cancels the task, and gives the Task up.
     pub fn discard(self) -> EndedCall<F, Kept<F>, A>
-        ensures path { EndsTask (CancelPath (HandedOver Q.scheduled (cell_of self.task.inner.share) self.task.around false) ((a : A) × A.woken a)) (DetachPath (HandedOver Q.scheduled (cell_of self.task.inner.share) self.task.around false)) self.task.inner.party result.party }
+        ensures path { EndsTask (CancelPath (HandedOver Q.scheduled (cell_of self.task.inner.share) self.task.around false) ((a : A) × (r : A.Record) × A.woken a r)) (DetachPath (HandedOver Q.scheduled (cell_of self.task.inner.share) self.task.around false)) self.task.inner.party result.party }
     {
         let FallibleTask { task } = self;
         task.discard()
@@ -100,6 +102,14 @@ where
         ensures around { self.new.task.around ≡ self.old.task.around }
     {
         self.task.is_finished()
+    }
+
+    /// The word as one load finds it. The clause `witness` says all that is proved of it: an interleaving of the machine, from the spawn of this task, ends in it, all laws hold there, and this Task did last in it what its calls have promised. Nothing changes. It waits for nobody.
+    pub fn witness(&mut self) -> Word
+        ensures witness { Witnesses self.old.task.inner.party result }
+        ensures same { (self.new.task.inner.share ≡ self.old.task.inner.share) × (self.new.task.inner.party ≡ self.old.task.inner.party) × (self.new.task.around ≡ self.old.task.around) }
+    {
+        self.task.witness()
     }
 
     /// Answers with the output once there is one, or with `None` where the task is closed. Otherwise a clone of `awaiter` is registered, to be woken then.

@@ -8,6 +8,7 @@ ghost use Rattle.task_cell.specs.TaskPaths.{CancelPath, DetachPath};
 ghost use Rattle.task_cell.specs.Handed.{HandedOver};
 ghost use Rattle.task_cell.specs.PollPaths.{IfOutput};
 ghost use Rattle.async_task.specs.HandlePaths.{EndsTask, FindsFinished, PollsOnce, IfSomeOutput, fallible_answer, is_closed};
+ghost use Rattle.task_cell.specs.Witnessed.{Witnesses};
 ghost use Rattle.task_cell.specs.Calls.{Did, deeds, position, places_of, limit_of, is_empty};
 ghost use Rattle.task_steps.specs.Standing.{as_ended, is_task};
 
@@ -18,6 +19,7 @@ use std::alloc::{Allocator, Global};
 use std::io;
 use std::sync::Wait;
 use task_cell::{EndedCall, Kept, Party, Runnable, Share};
+use task_core::word::Word;
 use task_core::{Schedule, TaskPoll, Wake, Yields};
 use thiserror::Error;
 
@@ -61,6 +63,14 @@ impl<R: Wait + Drop + Copy, F: Yields, Q: Drop, M: Drop, A: Wake, B: Allocator +
         self.share.is_finished(&mut self.party)
     }
 
+    // The word as one load finds it, and an interleaving that ends in it.
+    pub(crate) fn witness(&mut self) -> Word
+        ensures witness { Witnesses self.old.party result }
+        ensures same { (self.new.share ≡ self.old.share) × (self.new.party ≡ self.old.party) }
+    {
+        self.share.witness(&mut self.party)
+    }
+
     // One poll of the Task. The output that it hands out meets what the type of the future states.
     pub(crate) fn poll(&mut self, awaiter: &A) -> TaskPoll<Option<F::Output>>
         ensures path { PollsOnce A.cloned A.woken A.woken_by_ref A.compared awaiter.now self.old.party self.new.party result }
@@ -81,7 +91,7 @@ impl<R: Wait + Drop + Copy, F: Yields, Q: Drop, M: Drop, A: Wake, B: Allocator +
     pub(crate) fn cancel<X: Copy>(&mut self, around: X)
     where
         Q: Schedule<Runnable<R, F, Q, M, A, X, B>>,
-        ensures path { (path : List Deed) × CancelPath (HandedOver Q.scheduled (cell_of self.old.share) around false) ((a : A) × A.woken a) path × Did path (position self.old.party) self.old.party self.new.party }
+        ensures path { (path : List Deed) × CancelPath (HandedOver Q.scheduled (cell_of self.old.share) around false) ((a : A) × (r : A.Record) × A.woken a r) path × Did path (position self.old.party) self.old.party self.new.party }
         ensures share { self.new.share ≡ self.old.share }
     {
         self.share.cancel(&mut self.party, around);
@@ -152,13 +162,14 @@ where
 
     /// Does what a drop does: cancels the task, and gives the Task up.
     pub fn discard(self) -> EndedCall<F, Kept<F>, A>
-        ensures path { EndsTask (CancelPath (HandedOver Q.scheduled (cell_of self.inner.share) self.around false) ((a : A) × A.woken a)) (DetachPath (HandedOver Q.scheduled (cell_of self.inner.share) self.around false)) self.inner.party result.party }
+        ensures path { EndsTask (CancelPath (HandedOver Q.scheduled (cell_of self.inner.share) self.around false) ((a : A) × (r : A.Record) × A.woken a r)) (DetachPath (HandedOver Q.scheduled (cell_of self.inner.share) self.around false)) self.inner.party result.party }
     {
         let (inner, around) = self.into_parts();
         let TaskParty { share, mut party } = inner;
+        let ledger = share.ledger();
         share.cancel(&mut party, around);
         share.detach(&mut party, around);
-        party.let_go()
+        ledger.record(party)
     }
 
     /// The same handle without the surroundings. It makes no step.
@@ -206,8 +217,9 @@ where
     {
         let (inner, around) = self.into_parts();
         let TaskParty { share, mut party } = inner;
+        let ledger = share.ledger();
         share.detach(&mut party, around);
-        party.let_go()
+        ledger.record(party)
     }
 
     /// Whether the task is completed or closed. Once it is, each further answer is true.
@@ -219,6 +231,14 @@ where
         ensures around { self.new.around ≡ self.old.around }
     {
         self.inner.is_finished()
+    }
+
+    /// The word as one load finds it. The clause `witness` says all that is proved of it: an interleaving of the machine, from the spawn of this task, ends in it, all laws hold there, and this Task did last in it what its calls have promised. Nothing changes. It waits for nobody.
+    pub fn witness(&mut self) -> Word
+        ensures witness { Witnesses self.old.inner.party result }
+        ensures same { (self.new.inner.share ≡ self.old.inner.share) × (self.new.inner.party ≡ self.old.inner.party) × (self.new.around ≡ self.old.around) }
+    {
+        self.inner.witness()
     }
 
     /// Answers with the output once there is one, or with `TaskClosed`. Otherwise a clone of `awaiter` is registered, to be woken then.

@@ -14,6 +14,7 @@ use types.RcWeak.{part, rest}
 use types.RcWeak as counts
 use Rattle.atomic_table.specs.Table.{State}
 use Rattle.atomic_table.specs.Seated.{fact}
+use Rattle.counted_block.specs.declared.place.Place.{Place}
 use Rattle.counted_block.specs.Blocks.{BlockId, life, stay, grip, grips_left, parts, parts_if, hold_parts, counted}
 use Rattle.counted_block.proofs.Grips as grips
 
@@ -28,7 +29,7 @@ module _ {M : Type 1} {𝓤 : Ura M} (𝓛 : Logic 𝓤) (a : ℕ) where
   pub rest_bound : (N n : ℕ) → ent 𝓤 (sem 𝓛 (rest N a n)) (guard 𝓤 ((0 < n) × (n < 2 ^ N)) (sem 𝓛 (rest N a n)))
   rest_bound N n = qed 𝓛 (‵ (rest N a n) ∷ []) ∵ fpick ! (λ r. fpick ! (λ c. check ! (c.0, c.1) $ fpack ! (counts.Fine N n r) (λ _. flft (a ∷ []) r) c $ fpack ! Share (λ s. fex (counts.Fine N n s) (λ _. flft (a ∷ []) s)) r $ done !))
 
-module _ {M : Type 1} {𝓤 : Ura M} (𝓛 : Logic 𝓤) (R : RattleType) {V : Type 0} (cv : Coded V) (holds : State R.Denot V → Type 0) (out : ℕ → ℕ) (P : Fml) (z : BlockId) where
+module _ {M : Type 1} {𝓤 : Ura M} (𝓛 : Logic 𝓤) (R Q : RattleType) {V : Type 0} (cv : Coded V) (holds : State (Place R.Denot Q.Denot) V → Type 0) (out : ℕ → ℕ) (P : Fml) (z : BlockId) where
   abbrev ⟦◌⟧ : Fml → SProp 𝓤
   ⟦ X ⟧ = sem 𝓛 X
 
@@ -41,7 +42,7 @@ module _ {M : Type 1} {𝓤 : Ura M} (𝓛 : Logic 𝓤) (R : RattleType) {V : T
   infix 26 ◌⊢◌
   infixr 35 ◌∗◌
   abbrev Counts : Bool → ℕ → ℕ → Fml
-  Counts = counted R cv.code holds out P z
+  Counts = counted R Q cv.code holds out P z
 
   abbrev few : ℕ → Fml
   few h = fact (h < 9223372036854775808)

@@ -17,7 +17,6 @@ use denote.Struct.Owning.{shape}
 use denote.Struct.Tuple.{Tuple}
 use Rattle.std.specs.contracts.marker.PhantomData as phantom
 use Rattle.std.specs.declared.alloc.Allocator as Alloc
-use Rattle.atomic_table.specs.declared.shared.TableRule as Table
 use Rattle.counted_block.specs.declared.rule.BlockRule.{Ghosts}
 use Rattle.counted_block.specs.Blocks.{BlockId, place}
 use Rattle.counted_block.specs.contracts.share.Share as share
@@ -49,30 +48,30 @@ pub pair_typed : (p : Ptr) → InBlock p → T (has_ty (ty_struct [] (tcons ty_p
 pair_typed (block_ptr b o) i = (tt, (tt, (tt, tt)))
 pair_typed null_ptr i = absurd i
 
-module _ (S V K Y T' A : RattleType) (g : Ghosts Y.Denot S.Denot V.Denot K.Denot) (g' : Table.Ghosts Y.Denot S.Denot V.Denot K.Denot) (h : Alloc.Ghosts A.Denot) where
+module _ (S W V K Y T' A : RattleType) (g : Ghosts Y.Denot S.Denot W.Denot V.Denot K.Denot) (h : Alloc.Ghosts A.Denot) where
   abbrev pub Marked : RattleType
   Marked = Tuple (V ∷ K ∷ Y ∷ A ∷ [])
 
   abbrev pub ShareData : RattleType
-  ShareData = Struct (shape (share.the_type S V K Y T' A g g' h))
+  ShareData = Struct (shape (share.the_type S W V K Y T' A g h))
 
   abbrev pub MaybeShareData : RattleType
-  MaybeShareData = Struct (shape (maybe_share.the_type S V K Y T' A g g' h))
+  MaybeShareData = Struct (shape (maybe_share.the_type S W V K Y T' A g h))
 
   abbrev pub HoldData : RattleType
-  HoldData = Struct (shape (hold.the_type S V K Y T' A g g' h))
+  HoldData = Struct (shape (hold.the_type S W V K Y T' A g h))
 
   abbrev pub MaybeHoldData : RattleType
-  MaybeHoldData = Struct (shape (maybe_hold.the_type S V K Y T' A g g' h))
+  MaybeHoldData = Struct (shape (maybe_hold.the_type S W V K Y T' A g h))
 
   abbrev pub RemainsData : RattleType
-  RemainsData = Struct (shape (remains.the_type S V K Y T' A g g' h))
+  RemainsData = Struct (shape (remains.the_type S W V K Y T' A g h))
 
   abbrev pub LedgerMarked : RattleType
-  LedgerMarked = Tuple (S ∷ V ∷ K ∷ Y ∷ T' ∷ A ∷ [])
+  LedgerMarked = Tuple (S ∷ W ∷ V ∷ K ∷ Y ∷ T' ∷ A ∷ [])
 
   abbrev pub LedgerData : RattleType
-  LedgerData = Struct (shape (ledger.the_type S V K Y T' A g g' h))
+  LedgerData = Struct (shape (ledger.the_type S W V K Y T' A g h))
 
   pub share_told : (p : Ptr) (vs : List Val) → Is ShareData (p, (tt, tt)) vs → vs ≡ ptr_and_marker p ∷ []
   share_told p vs is = is.1.0 ∙ ap (λ (ws : List Val). vstruct (of_list (ws ++ (is.0.1.0 ++ []))) ∷ []) is.1.1.0 ∙ ap (λ (ws : List Val). vstruct (of_list (ptr_val p ∷ (ws ++ []))) ∷ []) is.1.1.1.0.1.0
@@ -112,14 +111,14 @@ module _ (S V K Y T' A : RattleType) (g : Ghosts Y.Denot S.Denot V.Denot K.Denot
     ledger_made = makes_shadow 𝓛 (LedgerData.own_val (tt, tt) (marker_val ∷ [])) (λ vss. (tt, ((λ uss. (tt, tt)), tt))) ((nil_val ∷ [], tt), (refl, ((tt, (refl, tt)), tt)))
 
     pub share_opens : Opens 𝓛 ShareData
-    share_opens = (Struct-Copied 𝓛 (shape (share.the_type S V K Y T' A g g' h)) (refl, (refl, tt)) (RawPtr-copy.copied M 𝓤 𝓛, ((field_copy (phantom.the_type Marked) tt).copied M 𝓤 𝓛, tt))).opens
+    share_opens = (Struct-Copied 𝓛 (shape (share.the_type S W V K Y T' A g h)) (refl, (refl, tt)) (RawPtr-copy.copied M 𝓤 𝓛, ((field_copy (phantom.the_type Marked) tt).copied M 𝓤 𝓛, tt))).opens
 
     pub hold_opens : Opens 𝓛 HoldData
-    hold_opens = (Struct-Copied 𝓛 (shape (hold.the_type S V K Y T' A g g' h)) (refl, (refl, tt)) (RawPtr-copy.copied M 𝓤 𝓛, ((field_copy (phantom.the_type Marked) tt).copied M 𝓤 𝓛, tt))).opens
+    hold_opens = (Struct-Copied 𝓛 (shape (hold.the_type S W V K Y T' A g h)) (refl, (refl, tt)) (RawPtr-copy.copied M 𝓤 𝓛, ((field_copy (phantom.the_type Marked) tt).copied M 𝓤 𝓛, tt))).opens
 
-module _ (S V : RattleType) where
+module _ (S W V : RattleType) where
   abbrev pub SeatData : RattleType
-  SeatData = Struct (shape (seat.the_type S V))
+  SeatData = Struct (shape (seat.the_type S W V))
 
   pub seat_told : (vs : List Val) → Is SeatData (tt, tt) vs → vs ≡ marker_val ∷ []
   seat_told vs is = is.1.0 ∙ ap (λ (ws : List Val). vstruct (of_list (ws ++ [])) ∷ []) is.1.1.0.1.0

@@ -8,14 +8,15 @@ use types.Logic.{Logic, sem}
 use denote.RattleType.{RattleType}
 use denote.Sharing.{ShrLaws}
 use Rattle.atomic_table.specs.Table.{State}
+use Rattle.counted_block.specs.declared.place.Place.{Place}
 use Rattle.counted_block.specs.Blocks.{BlockId, block, kept}
 
-module _ (R : RattleType) {V : Type 0} (c : V → Gv) (holds : State R.Denot V → Type 0) (out : ℕ → ℕ) (P : Fml) (z : BlockId) where
+module _ (R Q : RattleType) {V : Type 0} (c : V → Gv) (holds : State (Place R.Denot Q.Denot) V → Type 0) (out : ℕ → ℕ) (P : Fml) (z : BlockId) where
   abbrev J : Fml
-  J = block R c holds out P z
+  J = block R Q c holds out P z
 
   abbrev K : Fml
-  K = kept R c holds out P z
+  K = kept R Q c holds out P z
 
   module _ {M : Type 1} {𝓤 : Ura M} (𝓛 : Logic 𝓤) where
     pub kept_twice : ent 𝓤 (sem 𝓛 K) (sep 𝓤 (sem 𝓛 K) (sem 𝓛 K))

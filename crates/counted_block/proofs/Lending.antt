@@ -18,6 +18,7 @@ use denote.Moves.{moves_from}
 use denote.Steps.{nothing}
 use denote.Struct.Lending.{Lends}
 use Rattle.atomic_table.specs.Table.{State}
+use Rattle.counted_block.specs.declared.place.Place.{Place}
 use Rattle.counted_block.specs.Blocks.{BlockId, life, stay, grip, kept, share_owns, share_shares, hold_owns, hold_shares}
 use Rattle.counted_block.proofs.Keeping as keeping
 
@@ -33,9 +34,9 @@ module _ {M : Type 1} {𝓤 : Ura M} (𝓛 : Logic 𝓤) (F : Fml) (G : Lft → 
       use2 𝓛 (‵ (flft (span ts) q)) (apply∗ 𝓤 (A.lft κ (thinned κ q)) (A.lft (span ts) q)) $ move ! (0 ∷ 2 ∷ []) $ use2 𝓛 (raw (lfts 𝓛 ts)) (apply∗ 𝓤 (A.lft (span ts) q) (lfts 𝓛 ts)) $
       now ! $ move ! (1 ∷ 0 ∷ []) $ done !)
 
-module _ (R : RattleType) {V : Type 0} (c : V → Gv) (holds : State R.Denot V → Type 0) (out : ℕ → ℕ) (P : Fml) (z : BlockId) (t : Lft → Fml) (L : ShrLaws t) where
+module _ (R Q : RattleType) {V : Type 0} (c : V → Gv) (holds : State (Place R.Denot Q.Denot) V → Type 0) (out : ℕ → ℕ) (P : Fml) (z : BlockId) (t : Lft → Fml) (L : ShrLaws t) where
   abbrev K : Fml
-  K = kept R c holds out P z
+  K = kept R Q c holds out P z
 
   abbrev owns : Fml
   owns = share_owns K t z
@@ -52,7 +53,7 @@ module _ (R : RattleType) {V : Type 0} (c : V → Gv) (holds : State R.Denot V �
   pub shows_laws : ShrLaws shows
   shows_laws = beside_shr_laws (beside (one (λ q. flft (life z) q)) (one (λ q. flft (stay z) q))) (beside (λ _. K) (held (life z) t))
       (beside_shr_laws (one (λ q. flft (life z) q)) (one (λ q. flft (stay z) q)) (one_shr_laws (λ q. flft (life z) q)) (one_shr_laws (λ q. flft (stay z) q)))
-      (beside_shr_laws (λ _. K) (held (life z) t) (keeping.kept_laws R c holds out P z) (held_shr_laws (life z) t L))
+      (beside_shr_laws (λ _. K) (held (life z) t) (keeping.kept_laws R Q c holds out P z) (held_shr_laws (life z) t L))
 
   pub held_laws : ShrLaws seen_held
   held_laws = beside_shr_laws (one (λ q. flft (life z) q)) (held (life z) t) (one_shr_laws (λ q. flft (life z) q)) (held_shr_laws (life z) t L)
@@ -80,7 +81,7 @@ module _ (R : RattleType) {V : Type 0} (c : V → Gv) (holds : State R.Denot V �
     unfolding fseps
     share_by_token κ q = qed 𝓛 (‵ (fbor κ owns) ∷ ‵ (flft κ q) ∷ []) ∵ updating ! $ bor_open ! tt $ move ! (1 ∷ []) $ fsplit3 ! $ fsplit ! $ fpick ! (λ e. fpick ! (λ ce. move ! (1 ∷ []) $ fpick ! (λ d. fpick ! (λ cd. move ! (2 ∷ []) $
         -- [what is kept; the tally's token; the age's token; the value; the open borrow]
-        use1 𝓛 (‵ K ⊛ ‵ K) (keeping.kept_twice R c holds out P z 𝓛) $ split ! $ move ! (4 ∷ []) $ use1 𝓛 (‵ (t (life z)) ⊛ ‵ (t (life z))) (contraction 𝓛 t L (life z)) $ split ! $ move ! (2 ∷ 0 ∷ []) $
+        use1 𝓛 (‵ K ⊛ ‵ K) (keeping.kept_twice R Q c holds out P z 𝓛) $ split ! $ move ! (4 ∷ []) $ use1 𝓛 (‵ (t (life z)) ⊛ ‵ (t (life z))) (contraction 𝓛 t L (life z)) $ split ! $ move ! (2 ∷ 0 ∷ []) $
         use2 𝓛 (‵ (fwand (fsep (fdead κ) (fseps (flft (life z) e ∷ flft (stay z) d ∷ []))) (fupd owns))) (share_back κ e d ce cd) $
         -- [the way back; the value; what is kept; the tally's token; the age's token; the open borrow]
         nothing ! $ move ! (4 ∷ 0 ∷ []) $ fjoin ! $ move ! (4 ∷ 0 ∷ []) $ fjoin ! $ move ! (4 ∷ 0 ∷ 1 ∷ []) $ obor_alter ! tt (flft (life z) e ∷ flft (stay z) d ∷ []) $
@@ -110,7 +111,7 @@ module _ (R : RattleType) {V : Type 0} (c : V → Gv) (holds : State R.Denot V �
     lends_hold l = lends_by 𝓛 holder seen_held l hold_by_token
 
     kept_by_token : (κ : Lft) (q : Share) → A.bor κ K ∗ A.lft κ q ⊢ H.⇛ (⟦ K ⟧ ∗ A.lft κ q)
-    kept_by_token κ q = qed 𝓛 (‵ (fbor κ K) ∷ ‵ (flft κ q) ∷ []) ∵ updating ! $ bor_open ! tt $ move ! (1 ∷ []) $ use1 𝓛 (‵ K ⊛ ‵ K) (keeping.kept_twice R c holds out P z 𝓛) $ split ! $ move ! (2 ∷ 0 ∷ []) $ obor_close ! tt $ now ! $ keep ! (2 ∷ 1 ∷ []) $ done !
+    kept_by_token κ q = qed 𝓛 (‵ (fbor κ K) ∷ ‵ (flft κ q) ∷ []) ∵ updating ! $ bor_open ! tt $ move ! (1 ∷ []) $ use1 𝓛 (‵ K ⊛ ‵ K) (keeping.kept_twice R Q c holds out P z 𝓛) $ split ! $ move ! (2 ∷ 0 ∷ []) $ obor_close ! tt $ now ! $ keep ! (2 ∷ 1 ∷ []) $ done !
 
     pub lends_kept : (l : Lft) → Lends 𝓛 K (λ _. K) l
     lends_kept l = lends_by 𝓛 K (λ _. K) l kept_by_token

@@ -20,6 +20,7 @@ use Rattle.std.specs.Sync.RawAtomic.{asks, always}
 use Rattle.atomic_table.specs.Table.{State, Me, Act, Allows, carried_after, stepped}
 use Rattle.atomic_table.specs.Seated.{word, fact, seen, roster}
 use Rattle.atomic_table.proofs.Roster.{Moved, moves}
+use Rattle.counted_block.specs.declared.place.Place.{Place}
 use Rattle.counted_block.specs.Blocks.{BlockId, stay, parts, parts_if, word_of, Fits, shelf, carried, seat_owns, words_in, counted, standing, stands, block}
 use Rattle.counted_block.specs.Counts.{Same, More, Less}
 use Rattle.counted_block.proofs.Opening.{Lies, Ends, entered}
@@ -30,7 +31,7 @@ set_first : (ns : List ℕ) (n : ℕ) → length ns ≡ 1 → n ≡ get_or (set 
 set_first [] n l = absurd (omega arith)
 set_first (m ∷ ms) n l = refl
 
-module _ {M : Type 1} {𝓤 : Ura M} (𝓛 : Logic 𝓤) (R : RattleType) {V : Type 0} (cv : Coded V) (holds : State R.Denot V → Type 0) (out : ℕ → ℕ) (P : Fml) (z : BlockId) where
+module _ {M : Type 1} {𝓤 : Ura M} (𝓛 : Logic 𝓤) (R Q : RattleType) {V : Type 0} (cv : Coded V) (holds : State (Place R.Denot Q.Denot) V → Type 0) (out : ℕ → ℕ) (P : Fml) (z : BlockId) where
   open 𝓛 use {H, A}
 
   abbrev Pr : Type 2
@@ -48,10 +49,10 @@ module _ {M : Type 1} {𝓤 : Ura M} (𝓛 : Logic 𝓤) (R : RattleType) {V : T
   infix 26 ◌⊢◌
   infixr 35 ◌∗◌
   abbrev S : Type 0
-  S = R.Denot
+  S = Place R.Denot Q.Denot
 
   abbrev J : Fml
-  J = block R cv.code holds out P z
+  J = block R Q cv.code holds out P z
 
   abbrev b : ℕ
   b = z.block
@@ -60,14 +61,14 @@ module _ {M : Type 1} {𝓤 : Ura M} (𝓛 : Logic 𝓤) (R : RattleType) {V : T
   o = z.offset + 0
 
   abbrev Counts : Bool → ℕ → ℕ → Fml
-  Counts = counted R cv.code holds out P z
+  Counts = counted R Q cv.code holds out P z
 
   -- what a step on the word changes beside it
   abbrev pub body : ℕ → ℕ → State S V → Fml
-  body w h s = fsep (Counts true w h) (fsep (shelf R z 0 s.homes) (roster cv.code z.views 0 s.views))
+  body w h s = fsep (Counts true w h) (fsep (shelf R Q z 0 s.homes) (roster cv.code z.views 0 s.views))
 
   abbrev pub Next : (ℕ → ℕ) → (ℕ → Fml) → State S V → ℕ → State S V → Pr
-  Next f after s h t = guard 𝓤 ((t.words ≡ set s.words 0 (f (word_of s))) × holds t × (length t.homes ≡ 3)) (⟦ body (f (word_of s)) h t ⟧ ∗ ⟦ after (word_of s) ⟧)
+  Next f after s h t = guard 𝓤 ((t.words ≡ set s.words 0 (f (word_of s))) × holds t × (length t.homes ≡ 2)) (⟦ body (f (word_of s)) h t ⟧ ∗ ⟦ after (word_of s) ⟧)
 
   -- whoever shows that the closer is here finds the word, and may go on by a state that keeps the rule
   module _ (f : ℕ → ℕ) (after : ℕ → Fml) (E : Pr) (here : (Z : Pr) → E ∗ A.dead (stay z) ⊢ Z)
@@ -75,51 +76,51 @@ module _ {M : Type 1} {𝓤 : Ura M} (𝓛 : Logic 𝓤) (R : RattleType) {V : T
     abbrev G : Pr
     G = ex 𝓤 (Lies 𝓛 J b o f after)
 
-    with_closer : (y : Bool) (s : State S V) (h : ℕ) → ⟦ standing R cv.code holds out P z (y, (s, h)) ⟧ ∗ E ⊢ upd 𝓤 G
-    with_closer false s h = qed 𝓛 (‵ (standing R cv.code holds out P z (false, (s, h))) ∷ raw E ∷ []) ∵ fsplit3 ! $ move ! (1 ∷ []) $ fsplit3 ! $ move ! (1 ∷ []) $ fsplit ! $ keep ! (6 ∷ 1 ∷ []) $ by ! (here (upd 𝓤 G))
-    with_closer true s h = let n : ℕ = word_of s in qed 𝓛 (‵ (standing R cv.code holds out P z (true, (s, h))) ∷ raw E ∷ []) ∵ suffices ! _ (upd_i 𝓤 G) $ fsplit3 ! $ move ! (2 ∷ []) $ fsplit ! $ move ! (1 ∷ []) $ fsplit ! $ move ! (1 ∷ []) $ fpick ! (λ so. drop ! $
+    with_closer : (y : Bool) (s : State S V) (h : ℕ) → ⟦ standing R Q cv.code holds out P z (y, (s, h)) ⟧ ∗ E ⊢ upd 𝓤 G
+    with_closer false s h = qed 𝓛 (‵ (standing R Q cv.code holds out P z (false, (s, h))) ∷ raw E ∷ []) ∵ fsplit3 ! $ move ! (1 ∷ []) $ fsplit3 ! $ move ! (1 ∷ []) $ fsplit ! $ keep ! (6 ∷ 1 ∷ []) $ by ! (here (upd 𝓤 G))
+    with_closer true s h = let n : ℕ = word_of s in qed 𝓛 (‵ (standing R Q cv.code holds out P z (true, (s, h))) ∷ raw E ∷ []) ∵ suffices ! _ (upd_i 𝓤 G) $ fsplit3 ! $ move ! (2 ∷ []) $ fsplit ! $ move ! (1 ∷ []) $ fsplit ! $ move ! (1 ∷ []) $ fpick ! (λ so. drop ! $
         -- [the roster; the slots and what is lent; the words; the counts; E]
         move ! (2 ∷ []) $ fsplit ! $ use1 𝓛 (given (lib.Dec.T (has_ty (ty_int w64) (vint w64 n)) × WT (vint w64 n)) (‵ (word b o n))) (𝓛.laws.at_wt full_share (ty_int w64) b o (vint w64 n)) $ learn ! (λ typed.
         show ! (Lies 𝓛 J b o f after) n $ frame ! $ assume ! (‵ (word b o (f n))) $ show ! (λ (ls : List ℕ). Ends 𝓛 J b o f after ls n) [] $
         -- [the word; the holds; the roster; the slots and what is lent; the counts; E]
         move ! (3 ∷ []) $ fsplit ! $ move ! (0 ∷ 4 ∷ []) $ fjoin ! $ move ! (4 ∷ 0 ∷ []) $ fjoin ! $ move ! (0 ∷ 4 ∷ []) $ use2 𝓛 (raw (upd 𝓤 (ex 𝓤 (Next f after s h)))) (law s h so typed.1.fits) $ let Z : Pr = ⟦ J ⟧ ∗ ⟦ after n ⟧ in
-        settle 𝓛 Z (some (λ (t : State S V). given ((t.words ≡ set s.words 0 (f n)) × holds t × (length t.homes ≡ 3)) (‵ (body (f n) h t) ⊛ ‵ (after n)))) $ pick ! (λ t. learn ! (λ good. split ! $ fsplit3 ! $
+        settle 𝓛 Z (some (λ (t : State S V). given ((t.words ≡ set s.words 0 (f n)) × holds t × (length t.homes ≡ 2)) (‵ (body (f n) h t) ⊛ ‵ (after n)))) $ pick ! (λ t. learn ! (λ good. split ! $ fsplit3 ! $
         let fits : Fits holds t = (good.1, subst (λ (ws : List ℕ). length ws ≡ 1) (sym good.0) (length-set s.words 0 (f n) ∙ so.1), good.2) in
         let is : f n ≡ word_of t = set_first s.words (f n) so.1 ∙ ap (λ (ws : List ℕ). get_or ws 0 0) (sym good.0) in
         -- [the counts; the slots; the roster; what is after; what is lent; the word; the holds]
         nothing ! $ fpack ! (Fits holds t) (λ _. ftrue) fits $ move ! (3 ∷ 0 ∷ []) $ fjoin ! $ move ! (2 ∷ 4 ∷ []) $ fjoin ! $ move ! (0 ∷ 1 ∷ []) $ fjoin ! $ move ! (3 ∷ 4 ∷ []) $ fjoin ! $
         rewrite ! 0 (λ (m : ℕ). ‵ (words_in z m h)) is refl $ rewrite ! 2 (λ (m : ℕ). ‵ (Counts true m h)) is refl $
-        move ! (0 ∷ 2 ∷ 1 ∷ []) $ fjoin3 ! $ fpack ! (Bool × (State S V × ℕ)) (standing R cv.code holds out P z) (true, (t, h)) $ fpack ! Bool (stands R cv.code holds out P z) true $
+        move ! (0 ∷ 2 ∷ 1 ∷ []) $ fjoin3 ! $ fpack ! (Bool × (State S V × ℕ)) (standing R Q cv.code holds out P z) (true, (t, h)) $ fpack ! Bool (stands R Q cv.code holds out P z) true $
         suffices ! _ (upd_i 𝓤 Z) $ done !))))
 
-    either_way : (y : Bool) → ⟦ stands R cv.code holds out P z y ⟧ ∗ E ⊢ upd 𝓤 G
-    either_way false = qed 𝓛 (‵ (stands R cv.code holds out P z false) ∷ raw E ∷ []) ∵ fsplit ! $ fsplit ! $ keep ! (3 ∷ 1 ∷ []) $ by ! (here (upd 𝓤 G))
-    either_way true = qed 𝓛 (‵ (stands R cv.code holds out P z true) ∷ raw E ∷ []) ∵ fpick ! (λ t. by ! (with_closer t.0 t.1.0 t.1.1))
+    either_way : (y : Bool) → ⟦ stands R Q cv.code holds out P z y ⟧ ∗ E ⊢ upd 𝓤 G
+    either_way false = qed 𝓛 (‵ (stands R Q cv.code holds out P z false) ∷ raw E ∷ []) ∵ fsplit ! $ fsplit ! $ keep ! (3 ∷ 1 ∷ []) $ by ! (here (upd 𝓤 G))
+    either_way true = qed 𝓛 (‵ (stands R Q cv.code holds out P z true) ∷ raw E ∷ []) ∵ fpick ! (λ t. by ! (with_closer t.0 t.1.0 t.1.1))
 
     pub opened : A.inv J ∗ E ⊢ asks 𝓛 (block_ptr b o) f always after
     opened = entered 𝓛 J b o f after E (qed 𝓛 (‵ J ∷ raw E ∷ []) ∵ fpick ! (λ y. by ! (either_way y)))
 
   -- a seat goes on, with what else the step takes and gives: `before` beside what is not out of the counts, and `left` after it
-  module _ (id : ℕ) (me : Me S V) (f : ℕ → ℕ) (told : ℕ → Me S V → Type 0) (asked : Allows holds 3 id me 0 f told) where
+  module _ (id : ℕ) (me : Me S V) (f : ℕ → ℕ) (told : ℕ → Me S V → Type 0) (asked : Allows holds 2 id me 0 f told) where
     abbrev pub goes : ℕ → Me S V → Fml
-    goes n u = fsep (fact (told n u)) (seat_owns R z cv.code id u)
+    goes n u = fsep (fact (told n u)) (seat_owns R Q z cv.code id u)
 
     abbrev pub after : (ℕ → Fml) → ℕ → Fml
     after left n = fsep (left n) (fex (Me S V) (goes n))
 
     moved : (before : Fml) (left : ℕ → Fml) → ((Z : Pr) → ⟦ before ⟧ ∗ A.dead (stay z) ⊢ Z)
         → ((s : State S V) (h : ℕ) → holds s → get_elem? s.views id ≡ maybe.some me.0 → ⟦ Counts true (word_of s) h ⟧ ∗ ⟦ before ⟧ ⊢ ⟦ Counts true (f (word_of s)) h ⟧ ∗ ⟦ left (word_of s) ⟧)
-        → A.inv J ∗ ⟦ before ⟧ ∗ ⟦ seat_owns R z cv.code id me ⟧ ⊢ asks 𝓛 (block_ptr b o) f always (after left)
-    moved before left here trades = opened f (after left) (⟦ before ⟧ ∗ ⟦ seat_owns R z cv.code id me ⟧)
-        (λ Z. qed 𝓛 ((‵ before ⊛ ‵ (seat_owns R z cv.code id me)) ∷ ‵ (fdead (stay z)) ∷ []) ∵ split ! $ keep ! (0 ∷ 2 ∷ []) $ by ! (here Z))
+        → A.inv J ∗ ⟦ before ⟧ ∗ ⟦ seat_owns R Q z cv.code id me ⟧ ⊢ asks 𝓛 (block_ptr b o) f always (after left)
+    moved before left here trades = opened f (after left) (⟦ before ⟧ ∗ ⟦ seat_owns R Q z cv.code id me ⟧)
+        (λ Z. qed 𝓛 ((‵ before ⊛ ‵ (seat_owns R Q z cv.code id me)) ∷ ‵ (fdead (stay z)) ∷ []) ∵ split ! $ keep ! (0 ∷ 2 ∷ []) $ by ! (here Z))
         (λ s h so small. let n : ℕ = word_of s in let γ : ℕ = z.views in
-        qed 𝓛 (‵ (body n h s) ∷ ‵ before ∷ ‵ (seat_owns R z cv.code id me) ∷ []) ∵ fsplit3 ! $ move ! (4 ∷ []) $ fsplit ! $ move ! (4 ∷ 0 ∷ []) $
+        qed 𝓛 (‵ (body n h s) ∷ ‵ before ∷ ‵ (seat_owns R Q z cv.code id me) ∷ []) ∵ fsplit3 ! $ move ! (4 ∷ []) $ fsplit ! $ move ! (4 ∷ 0 ∷ []) $
         use2 𝓛 (given (get_elem? s.views id ≡ maybe.some me.0) (raw (all 𝓤 (Moved 𝓛 cv γ 0 s.views id id)))) (moves 𝓛 cv γ s.views 0 id id me.0 (omega arith)) $ learn ! (λ at.
         let r = asked s so.0 so.2 at small in let u : V = r.0 in let a : Act S = r.1 in let t : State S V = stepped s 0 (f n) id me.1 u a in let me' : Me S V = (u, carried_after me.1 a) in
         let Z : Pr = ex 𝓤 (Next f (after left) s h) in
         use1 𝓛 (raw (Moved 𝓛 cv γ 0 s.views id id u)) (all_e 𝓤 (Moved 𝓛 cv γ 0 s.views id id) u) $ settle 𝓛 Z (‵ (roster cv.code γ 0 t.views) ⊛ ‵ (seen cv.code γ id three_quarters u)) $ suffices ! _ (upd_i 𝓤 Z) $ split ! $
         -- [the roster; the view; what the seat carries; the counts; the slots; before]
-        move ! (4 ∷ 2 ∷ []) $ use2 𝓛 (‵ (shelf R z 0 t.homes) ⊛ ‵ (carried R z me'.1)) (acts 𝓛 R z s.homes me.1 a so.2 r.2) $ split ! $
+        move ! (4 ∷ 2 ∷ []) $ use2 𝓛 (‵ (shelf R Q z 0 t.homes) ⊛ ‵ (carried R Q z me'.1)) (acts 𝓛 R Q z s.homes me.1 a so.2 r.2) $ split ! $
         move ! (4 ∷ 5 ∷ []) $ use2 𝓛 (‵ (Counts true (f n) h) ⊛ ‵ (left n)) (trades s h so.0 at) $ split ! $
         -- [the counts; left; the slots; what the seat carries; the roster; the view]
         show ! (Next f (after left) s h) t $ check ! (refl, r.3, same_size s.homes me.1 a ∙ so.2) $ move ! (2 ∷ 4 ∷ []) $ fjoin ! $ move ! (1 ∷ 0 ∷ []) $ fjoin ! $ frame ! $
@@ -130,17 +131,17 @@ module _ {M : Type 1} {𝓤 : Ura M} (𝓛 : Logic 𝓤) (R : RattleType) {V : T
       token = flft (stay z) q
 
       -- as many shares are out as before
-      pub looks : Same holds out id me.0 f → A.inv J ∗ ⟦ token ⟧ ∗ ⟦ seat_owns R z cv.code id me ⟧ ⊢ asks 𝓛 (block_ptr b o) f always (after (λ _. token))
+      pub looks : Same holds out id me.0 f → A.inv J ∗ ⟦ token ⟧ ∗ ⟦ seat_owns R Q z cv.code id me ⟧ ⊢ asks 𝓛 (block_ptr b o) f always (after (λ _. token))
       looks same = moved token (λ _. token) (counting.token_dead 𝓛 z.tally q) (λ s h so at. qed 𝓛 (‵ (Counts true (word_of s) h) ∷ ‵ token ∷ []) ∵
-          use1 𝓛 (‵ (Counts true (f (word_of s)) h)) (counting.same 𝓛 R cv holds out P z (word_of s) (f (word_of s)) h (same s so at)) $ done !)
+          use1 𝓛 (‵ (Counts true (f (word_of s)) h)) (counting.same 𝓛 R Q cv holds out P z (word_of s) (f (word_of s)) h (same s so at)) $ done !)
 
       abbrev pub with_more : (ℕ → Bool) → ℕ → Fml
       with_more counts n = fsep token (parts_if (counts n) z)
 
       -- maybe one more, which the caller gets
-      pub gains : (counts : ℕ → Bool) → More holds out id me.0 f counts → A.inv J ∗ ⟦ token ⟧ ∗ ⟦ seat_owns R z cv.code id me ⟧ ⊢ asks 𝓛 (block_ptr b o) f always (after (with_more counts))
+      pub gains : (counts : ℕ → Bool) → More holds out id me.0 f counts → A.inv J ∗ ⟦ token ⟧ ∗ ⟦ seat_owns R Q z cv.code id me ⟧ ⊢ asks 𝓛 (block_ptr b o) f always (after (with_more counts))
       gains counts more = moved token (with_more counts) (counting.token_dead 𝓛 z.tally q) (λ s h so at. let n : ℕ = word_of s in qed 𝓛 (‵ (Counts true n h) ∷ ‵ token ∷ []) ∵
-          use1 𝓛 (‵ (Counts true (f n) h) ⊛ ‵ (parts_if (counts n) z)) (counting.more_by 𝓛 R cv holds out P z n (f n) h (counts n) (more s so at)) $ split ! $ frame ! $ move ! (1 ∷ 0 ∷ []) $ fjoin ! $ done !)
+          use1 𝓛 (‵ (Counts true (f n) h) ⊛ ‵ (parts_if (counts n) z)) (counting.more_by 𝓛 R Q cv holds out P z n (f n) h (counts n) (more s so at)) $ split ! $ frame ! $ move ! (1 ∷ 0 ∷ []) $ fjoin ! $ done !)
 
     parts_here : (Z : Pr) → ⟦ parts z ⟧ ∗ A.dead (stay z) ⊢ Z
     parts_here Z = qed 𝓛 (‵ (parts z) ∷ ‵ (fdead (stay z)) ∷ []) ∵ fsplit ! $ keep ! (1 ∷ 2 ∷ []) $ by ! (counting.part_dead 𝓛 z.tally 62 Z)
@@ -149,5 +150,5 @@ module _ {M : Type 1} {𝓤 : Ura M} (𝓛 : Logic 𝓤) (R : RattleType) {V : T
     kept_where counts n = parts_if (not (counts n)) z
 
     -- maybe one less, which the caller had
-    pub ends_one : (counts : ℕ → Bool) → Less holds out id me.0 f counts → A.inv J ∗ ⟦ parts z ⟧ ∗ ⟦ seat_owns R z cv.code id me ⟧ ⊢ asks 𝓛 (block_ptr b o) f always (after (kept_where counts))
-    ends_one counts less = moved (parts z) (kept_where counts) parts_here (λ s h so at. let n : ℕ = word_of s in counting.less_by 𝓛 R cv holds out P z n (f n) h (counts n) (less s so at))
+    pub ends_one : (counts : ℕ → Bool) → Less holds out id me.0 f counts → A.inv J ∗ ⟦ parts z ⟧ ∗ ⟦ seat_owns R Q z cv.code id me ⟧ ⊢ asks 𝓛 (block_ptr b o) f always (after (kept_where counts))
+    ends_one counts less = moved (parts z) (kept_where counts) parts_here (λ s h so at. let n : ℕ = word_of s in counting.less_by 𝓛 R Q cv holds out P z n (f n) h (counts n) (less s so at))

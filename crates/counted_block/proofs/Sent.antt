@@ -1,5 +1,5 @@
 -- Shares, holds and ledgers may go to another thread where the value and the allocator may be sent and shared, and what a slot holds may be sent; a seat where that may.
-use Rattle.std.proofs.Common.{ℕ, ◌+◌, Bool, true, false, List, [], ◌∷◌}
+use Rattle.std.proofs.Common.{ℕ, zero, suc, Bool, true, false, List, [], ◌∷◌}
 use mathlib.Core.Option.{Option, none, some}
 use mir.Syntax.{Ty}
 use mir.Raw.{raw as bare_ty}
@@ -17,14 +17,16 @@ use Rattle.std.specs.declared.alloc.Allocator.{Ghosts}
 use Rattle.atomic_table.specs.Table.{State, Me}
 use Rattle.atomic_table.specs.Seated.{halved}
 use Rattle.atomic_table.proofs.Sent.{roster_keyless}
+use Rattle.counted_block.specs.declared.place.Place.{Place}
+use Rattle.counted_block.specs.declared.place.Place.TheVariants.{First, Second}
 use Rattle.counted_block.specs.Layout.{at_value}
-use Rattle.counted_block.specs.Blocks.{BlockId, life, place, slot_body, tracked, home, shelf, carried, seat_owns, counted, lent, standing, stands, kept}
+use Rattle.counted_block.specs.Blocks.{BlockId, life, place, first_body, second_body, tracked, home, shelf, carried, seat_owns, counted, lent, standing, stands, kept}
 use Rattle.counted_block.specs.Held.{content, share_of, share_shown, hold_of, hold_shown, kept_of}
 use Rattle.counted_block.specs.contracts.inner.Inner as inner
 
 -- a program makes no such proof of a type that no thread of it takes
-the_send : (R T : RattleType) → IsSend R → IsSend T → IsSend (inner.the_row R T)
-the_send R T sr s = search sendable depth 20
+the_send : (R Q T : RattleType) → IsSend R → IsSend Q → IsSend T → IsSend (inner.the_row R Q T)
+the_send R Q T sr sq s = search sendable depth 20
 
 lies : (R : RattleType) → IsSend R → (p : Ptr) (x : R.Denot) → Keyless (lies_at R full_share p x)
 lies R s (block_ptr b o) x = part_keyless R s full_share x b o
@@ -34,66 +36,73 @@ looked : (R : RattleType) → IsSync R → (p : Ptr) (x : R.Denot) → Common (l
 looked R y (block_ptr b o) x κ = (tt, y.shared x b o κ)
 looked R y null_ptr x κ = (tt, y.shared x 0 0 κ)
 
-module _ (R : RattleType) (s : IsSend R) (z : BlockId) where
-  body_keyless : (k : ℕ) → Keyless (slot_body R z k)
-  body_keyless k = λ x. (part_keyless R s full_share x _ _, tt)
+module _ (R Q : RattleType) (s : IsSend R) (s' : IsSend Q) (z : BlockId) where
+  first_keyless : Keyless (first_body R Q z)
+  first_keyless x = (part_keyless R s full_share x _ _, tt)
 
-  tracked_keyless : (k : ℕ) (y : R.Denot) → Keyless (tracked R z k y)
-  tracked_keyless k y = (tt, body_keyless k)
+  second_keyless : Keyless (second_body R Q z)
+  second_keyless y = (part_keyless Q s' full_share y _ _, tt)
 
-  home_keyless : (k : ℕ) (h : Option R.Denot) → Keyless (home R z k h)
+  tracked_keyless : (k : ℕ) (x : Place R.Denot Q.Denot) → Keyless (tracked R Q z k x)
+  tracked_keyless zero (First x) = (tt, first_keyless)
+  tracked_keyless zero (Second y) = tt
+  tracked_keyless (suc zero) (First x) = tt
+  tracked_keyless (suc zero) (Second y) = (tt, second_keyless)
+  tracked_keyless (suc (suc k)) x = tt
+
+  home_keyless : (k : ℕ) (h : Option (Place R.Denot Q.Denot)) → Keyless (home R Q z k h)
   home_keyless k none = tt
   home_keyless k (some y) = tracked_keyless k y
 
-  shelf_keyless : (k : ℕ) (hs : List (Option R.Denot)) → Keyless (shelf R z k hs)
+  shelf_keyless : (k : ℕ) (hs : List (Option (Place R.Denot Q.Denot))) → Keyless (shelf R Q z k hs)
   shelf_keyless k [] = tt
-  shelf_keyless k (h ∷ hs) = (home_keyless k h, shelf_keyless (Rattle.std.proofs.Common.suc k) hs)
+  shelf_keyless k (h ∷ hs) = (home_keyless k h, shelf_keyless (suc k) hs)
 
-  carried_keyless : (cs : List (ℕ × R.Denot)) → Keyless (carried R z cs)
+  carried_keyless : (cs : List (ℕ × Place R.Denot Q.Denot)) → Keyless (carried R Q z cs)
   carried_keyless [] = tt
-  carried_keyless (x ∷ xs) = ((λ _. tt), (tracked_keyless x.0 x.1, carried_keyless xs))
+  carried_keyless (x ∷ xs) = (tracked_keyless x.0 x.1, carried_keyless xs)
 
-  pub seat_keyless : {V : Type 0} (c : V → Gv) (id : ℕ) (me : Me R.Denot V) → Keyless (seat_owns R z c id me)
+  pub seat_keyless : {V : Type 0} (c : V → Gv) (id : ℕ) (me : Me (Place R.Denot Q.Denot) V) → Keyless (seat_owns R Q z c id me)
   seat_keyless c id me = (entry_keyless halved z.views id _, carried_keyless me.1)
 
-  module _ {V : Type 0} (c : V → Gv) (holds : State R.Denot V → Type 0) (out : ℕ → ℕ) (P : Fml) (free : Keyless P) where
-    counted_keyless : (y : Bool) (w h : ℕ) → Keyless (counted R c holds out P z y w h)
+  module _ {V : Type 0} (c : V → Gv) (holds : State (Place R.Denot Q.Denot) V → Type 0) (out : ℕ → ℕ) (P : Fml) (free : Keyless P) where
+    counted_keyless : (y : Bool) (w h : ℕ) → Keyless (counted R Q c holds out P z y w h)
     counted_keyless true w h = ((λ _. tt), (((λ r q. tt), (λ r q. tt)), λ r f. entry_keyless halved z.grips 0 _))
     counted_keyless false w h = ((λ _. tt), (((λ r q. tt), tt), λ r f. entry_keyless halved z.grips 0 _))
 
-    lent_keyless : Keyless (lent R c holds out P z)
-    lent_keyless = (free, (body_keyless 0, (body_keyless 1, body_keyless 2)))
+    lent_keyless : Keyless (lent R Q c holds out P z)
+    lent_keyless = (free, (first_keyless, second_keyless))
 
-    standing_keyless : (t : Bool × (State R.Denot V × ℕ)) → Keyless (standing R c holds out P z t)
+    standing_keyless : (t : Bool × (State (Place R.Denot Q.Denot) V × ℕ)) → Keyless (standing R Q c holds out P z t)
     standing_keyless t = ((tt, tt), (counted_keyless t.0 _ _, ((shelf_keyless 0 t.1.0.homes, lent_keyless), (roster_keyless c z.views 0 t.1.0.views, λ _. tt))))
 
-    stands_keyless : (y : Bool) → Keyless (stands R c holds out P z y)
+    stands_keyless : (y : Bool) → Keyless (stands R Q c holds out P z y)
     stands_keyless true = standing_keyless
     stands_keyless false = ((tt, tt), λ t. ((λ _. tt), (roster_keyless c z.views 0 t.views, λ _. tt)))
 
-    kept_keyless : Keyless (kept R c holds out P z)
+    kept_keyless : Keyless (kept R Q c holds out P z)
     kept_keyless = stands_keyless
 
-module _ (R T A : RattleType) (h : Ghosts A.Denot) (f : Frees h h.dealloc_token) (sr : IsSend R) (s : IsSend T) (y : IsSync T) {V : Type 0} (c : V → Gv) (holds : State R.Denot V → Type 0) (out : ℕ → ℕ) (heap : A.Denot) (z : BlockId) (x : T.Denot) where
+module _ (R Q T A : RattleType) (h : Ghosts A.Denot) (f : Frees h h.dealloc_token) (sr : IsSend R) (sq : IsSend Q) (s : IsSend T) (y : IsSync T) {V : Type 0} (c : V → Gv) (holds : State (Place R.Denot Q.Denot) V → Type 0) (out : ℕ → ℕ) (heap : A.Denot) (z : BlockId) (x : T.Denot) where
   abbrev k : Ty → Ptr → Fml
   k = h.dealloc_token heap
 
-  whole : Keyless (content R T k z x)
-  whole = let v = lies T s (place z +ₚ at_value R T) x in
-      (v, λ m. (((tt, tt), ((part_keyless R sr full_share m.1.0 _ _, (part_keyless R sr full_share m.1.1.0 _ _, part_keyless R sr full_share m.1.1.1 _ _)), v)), (lies (inner.the_row R T) (the_send R T sr s) (place z) record { word = m.0.0; holds = m.0.1; first = m.1.0; second = m.1.1.0; third = m.1.1.1; value = x }, f.frees heap (bare_ty (lone (inner.the_row R T).mir)) (place z))))
+  whole : Keyless (content R Q T k z x)
+  whole = let v = lies T s (place z +ₚ at_value R Q T) x in
+      (v, λ m. (((tt, tt), ((part_keyless R sr full_share m.1.0 _ _, part_keyless Q sq full_share m.1.1 _ _), v)), (lies (inner.the_row R Q T) (the_send R Q T sr sq s) (place z) record { word = m.0.0; holds = m.0.1; first = m.1.0; second = m.1.1; value = x }, f.frees heap (bare_ty (lone (inner.the_row R Q T).mir)) (place z))))
 
-  pub ledger_keyless : Keyless (kept_of R T c holds out k z x)
-  ledger_keyless = kept_keyless R sr z c holds out (content R T k z x) whole
+  pub ledger_keyless : Keyless (kept_of R Q T c holds out k z x)
+  ledger_keyless = kept_keyless R Q sr sq z c holds out (content R Q T k z x) whole
 
   module _ (p : Ptr) where
-    pub share_keyless : Keyless (share_of R T c holds out k z x p)
-    share_keyless = ((λ _. tt), (((λ e q. tt), (λ e q. tt)), (ledger_keyless, looked T y (place z +ₚ at_value R T) x (life z))))
+    pub share_keyless : Keyless (share_of R Q T c holds out k z x p)
+    share_keyless = ((λ _. tt), (((λ e q. tt), (λ e q. tt)), (ledger_keyless, looked T y (place z +ₚ at_value R Q T) x (life z))))
 
-    pub share_shown_keyless : Common (share_shown R T c holds out k z x p)
-    share_shown_keyless κ = ((λ _. tt), (((λ q. tt), (λ q. tt)), (ledger_keyless, looked T y (place z +ₚ at_value R T) x (life z))))
+    pub share_shown_keyless : Common (share_shown R Q T c holds out k z x p)
+    share_shown_keyless κ = ((λ _. tt), (((λ q. tt), (λ q. tt)), (ledger_keyless, looked T y (place z +ₚ at_value R Q T) x (life z))))
 
-    pub hold_keyless : Keyless (hold_of R T c holds out k z x p)
-    hold_keyless = ((λ _. tt), (((λ e q. tt), (λ e q. entry_keyless halved z.grips 0 _)), (ledger_keyless, looked T y (place z +ₚ at_value R T) x (life z))))
+    pub hold_keyless : Keyless (hold_of R Q T c holds out k z x p)
+    hold_keyless = ((λ _. tt), (((λ e q. tt), (λ e q. entry_keyless halved z.grips 0 _)), (ledger_keyless, looked T y (place z +ₚ at_value R Q T) x (life z))))
 
-    pub hold_shown_keyless : Common (hold_shown R T c holds out k z x p)
-    hold_shown_keyless κ = ((λ _. tt), ((λ q. tt), looked T y (place z +ₚ at_value R T) x (life z)))
+    pub hold_shown_keyless : Common (hold_shown R Q T c holds out k z x p)
+    hold_shown_keyless κ = ((λ _. tt), ((λ q. tt), looked T y (place z +ₚ at_value R Q T) x (life z)))

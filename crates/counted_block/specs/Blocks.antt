@@ -6,7 +6,7 @@ use base.Fraction.{full_share}
 use base.FractionLaws.{Counts}
 use base.Share.{three_quarters}
 use base.Stored.{Gv, gnum, Coded, coded×, coded_ℕ, coded_via}
-use base.Fml.{Fml, Lft, Share, ftrue, fsep, fex, flft, fdead, flent, fbor, fobs, finv}
+use base.Fml.{Fml, Lft, Share, ftrue, ffalse, fsep, fex, flft, fdead, flent, fbor, fobs, finv}
 use types.Keyed.{entry}
 use types.RcWeak.{part, rest}
 use types.SemTy.{Body}
@@ -16,7 +16,9 @@ use denote.RawPtr.{Ptr, block_ptr}
 use denote.Sharing.{beside, one, held}
 use Rattle.atomic_table.specs.Table.{State, Me}
 use Rattle.atomic_table.specs.Seated.{word, fact, halved, seen, roster}
-use Rattle.counted_block.specs.Layout.{at_slot}
+use Rattle.counted_block.specs.declared.place.Place.{Place}
+use Rattle.counted_block.specs.declared.place.Place.TheVariants.{First, Second}
+use Rattle.counted_block.specs.Layout.{at_first, at_second}
 
 -- which block it is: the names of its views, its counts and its slots, and where it lies
 pub record BlockId : Type 0 where
@@ -26,40 +28,40 @@ pub record BlockId : Type 0 where
   pub grips : ℕ
   pub first : ℕ
   pub second : ℕ
-  pub third : ℕ
   pub block : ℕ
   pub offset : ℕ
 
+-- how the logic encodes it as a ghost value
 abbrev pub block_id_coded : Coded BlockId
-block_id_coded = coded_via (coded× coded_ℕ (coded× coded_ℕ (coded× coded_ℕ (coded× coded_ℕ (coded× coded_ℕ (coded× coded_ℕ (coded× coded_ℕ (coded× coded_ℕ coded_ℕ))))))))
-    (λ (z : BlockId). (z.views, (z.age, (z.tally, (z.grips, (z.first, (z.second, (z.third, (z.block, z.offset)))))))))
-    (λ x y e i. record { views = (e i).0; age = (e i).1.0; tally = (e i).1.1.0; grips = (e i).1.1.1.0; first = (e i).1.1.1.1.0; second = (e i).1.1.1.1.1.0; third = (e i).1.1.1.1.1.1.0; block = (e i).1.1.1.1.1.1.1.0; offset = (e i).1.1.1.1.1.1.1.1 })
+block_id_coded = coded_via (coded× coded_ℕ (coded× coded_ℕ (coded× coded_ℕ (coded× coded_ℕ (coded× coded_ℕ (coded× coded_ℕ (coded× coded_ℕ coded_ℕ)))))))
+    (λ (z : BlockId). (z.views, (z.age, (z.tally, (z.grips, (z.first, (z.second, (z.block, z.offset))))))))
+    (λ x y e i. record { views = (e i).0; age = (e i).1.0; tally = (e i).1.1.0; grips = (e i).1.1.1.0; first = (e i).1.1.1.1.0; second = (e i).1.1.1.1.1.0; block = (e i).1.1.1.1.1.1.0; offset = (e i).1.1.1.1.1.1.1 })
 
 -- the lifetime for which the memory is lent, and the one that counts the shares
 abbrev pub life : BlockId → Lft
 life z = z.age ∷ []
 
+-- the lifetime that each share keeps alive: it is dead once the last one is closed
 abbrev pub stay : BlockId → Lft
 stay z = z.tally ∷ []
 
+-- where the block lies in memory
 abbrev pub place : BlockId → Ptr
 place z = block_ptr z.block z.offset
-
-abbrev pub slot_name : BlockId → ℕ → ℕ
-slot_name z zero = z.first
-slot_name z (suc zero) = z.second
-slot_name z (suc (suc k)) = z.third
 
 -- one grip, and what is left of them where h are out
 abbrev pub gripped : ℕ → Share → Fml
 gripped γ q = entry halved γ 0 (q, gnum 0)
 
+-- the ghost token of one hold, one part in 2 ^ 63
 abbrev pub grip : ℕ → Fml
 grip γ = fex Share (λ e. fex (Counts 63 e 1) (λ _. gripped γ e))
 
+-- r is the fraction of the grips that is left where h are out: all of it where none is
 abbrev pub Free : ℕ → Share → Type 0
 Free h r = (h < 9223372036854775808) × Counts 63 r (9223372036854775808 - h) × (h ≡ 0 → r ≡ full_share)
 
+-- the grips that no hold has, where h are out
 abbrev pub grips_left : ℕ → ℕ → Fml
 grips_left γ h = fex Share (λ r. fex (Free h r) (λ _. gripped γ r))
 
@@ -67,6 +69,7 @@ grips_left γ h = fex Share (λ r. fex (Free h r) (λ _. gripped γ r))
 abbrev pub parts : BlockId → Fml
 parts z = fsep (part 64 z.age) (part 62 z.tally)
 
+-- the same where there is a share, and else nothing
 abbrev pub parts_if : Bool → BlockId → Fml
 parts_if true z = parts z
 parts_if false z = ftrue
@@ -75,54 +78,72 @@ parts_if false z = ftrue
 abbrev pub hold_parts : BlockId → Fml
 hold_parts z = fsep (part 64 z.age) (grip z.grips)
 
+-- the same where there is a hold, and else nothing
 abbrev pub hold_parts_if : Bool → BlockId → Fml
 hold_parts_if true z = hold_parts z
 hold_parts_if false z = ftrue
 
-module _ (R : RattleType) (z : BlockId) where
-  abbrev pub slot_body : ℕ → Fml
-  slot_body k = Body (mem R) z.block (z.offset + at_slot R k) (slot_name z k)
+module _ (R Q : RattleType) (z : BlockId) where
+  -- the memory of each slot
+  abbrev pub first_body : Fml
+  first_body = Body (mem R) z.block (z.offset + at_first R) z.first
 
-  -- a slot, wherever it is
-  abbrev pub tracked : ℕ → R.Denot → Fml
-  tracked k y = fsep (fobs (slot_name z k) (R.coded.code y)) (fbor (life z) (slot_body k))
+  -- the memory of slot 1
+  abbrev pub second_body : Fml
+  second_body = Body (mem Q) z.block (z.offset + at_second R Q) z.second
 
-  abbrev pub home : ℕ → Option R.Denot → Fml
+  -- what lies in a slot, wherever that is; in each slot lies what is of its type
+  abbrev pub tracked : ℕ → Place R.Denot Q.Denot → Fml
+  tracked zero (First x) = fsep (fobs z.first (R.coded.code x)) (fbor (life z) first_body)
+  tracked zero (Second y) = ffalse
+  tracked (suc zero) (First x) = ffalse
+  tracked (suc zero) (Second y) = fsep (fobs z.second (Q.coded.code y)) (fbor (life z) second_body)
+  tracked (suc (suc k)) x = ffalse
+
+  -- what the invariant has of slot k: its memory where it is at home, and nothing where a seat has it out
+  abbrev pub home : ℕ → Option (Place R.Denot Q.Denot) → Fml
   home k none = ftrue
   home k (some y) = tracked k y
 
-  abbrev pub shelf : ℕ → List (Option R.Denot) → Fml
+  -- that of each slot from number k on
+  abbrev pub shelf : ℕ → List (Option (Place R.Denot Q.Denot)) → Fml
   shelf k [] = ftrue
   shelf k (h ∷ hs) = fsep (home k h) (shelf (suc k) hs)
 
-  abbrev pub carried : List (ℕ × R.Denot) → Fml
+  -- what a seat has of the slots that it took out: their memory
+  abbrev pub carried : List (ℕ × Place R.Denot Q.Denot) → Fml
   carried [] = ftrue
-  carried (x ∷ xs) = fsep (fact (x.0 < 3)) (fsep (tracked x.0 x.1) (carried xs))
+  carried (x ∷ xs) = fsep (tracked x.0 x.1) (carried xs)
 
   -- the rights to have the slots back
   abbrev pub owed : Fml
-  owed = fsep (flent (life z) (slot_body 0)) (fsep (flent (life z) (slot_body 1)) (flent (life z) (slot_body 2)))
+  owed = fsep (flent (life z) first_body) (flent (life z) second_body)
 
-  abbrev pub seat_owns : {V : Type 0} → (V → Gv) → ℕ → Me R.Denot V → Fml
+  -- what a seat owns: three quarters of its ghost view, and the slots that it has out
+  abbrev pub seat_owns : {V : Type 0} → (V → Gv) → ℕ → Me (Place R.Denot Q.Denot) V → Fml
   seat_owns c id me = fsep (seen c z.views id three_quarters me.0) (carried me.1)
 
 module _ {S V : Type 0} where
+  -- the number in the user's word
   abbrev pub word_of : State S V → ℕ
   word_of s = slice_index s.words 0
 
+  -- the rule holds of this state, which has one word and two slots
   abbrev pub Fits : (State S V → Type 0) → State S V → Type 0
-  Fits holds s = holds s × (length s.words ≡ 1) × (length s.homes ≡ 3)
+  Fits holds s = holds s × (length s.words ≡ 1) × (length s.homes ≡ 2)
 
   -- the rule, with the view of a seat if there is one
   abbrev pub Known : (State S V → Type 0) → Option (ℕ × V) → State S V → Type 0
   Known holds none s = holds s
   Known holds (some x) s = Rattle.atomic_table.specs.Table.Seen holds x.0 x.1 s
 
+-- both words in memory: the user's, and the one that counts the holds
 abbrev pub words_in : BlockId → ℕ → ℕ → Fml
 words_in z n h = fsep (word z.block (z.offset + 0) n) (word z.block (z.offset + 8) h)
 
-module _ (R : RattleType) {V : Type 0} (c : V → Gv) (holds : State R.Denot V → Type 0) (out : ℕ → ℕ) (P : Fml) (z : BlockId) where
-  abbrev pub views_in : State R.Denot V → Fml
+module _ (R Q : RattleType) {V : Type 0} (c : V → Gv) (holds : State (Place R.Denot Q.Denot) V → Type 0) (out : ℕ → ℕ) (P : Fml) (z : BlockId) where
+  -- the ghost views of all seats are those of this state, and the rule holds of it
+  abbrev pub views_in : State (Place R.Denot Q.Denot) V → Fml
   views_in s = fsep (roster c z.views 0 s.views) (fact (Fits holds s))
 
   -- what is not out, with the closer here or after it has left
@@ -130,19 +151,24 @@ module _ (R : RattleType) {V : Type 0} (c : V → Gv) (holds : State R.Denot V �
   counted true w h = fsep (fact (h < 9223372036854775808)) (fsep (fsep (rest 64 z.age (out w + h)) (rest 62 z.tally (out w))) (grips_left z.grips h))
   counted false w h = fsep (fact (9223372036854775808 ≤ h)) (fsep (fsep (rest 64 z.age (h - 9223372036854775808)) (fdead (stay z))) (grips_left z.grips (h - 9223372036854775808)))
 
+  -- what comes back once the memory is no longer lent: the content beside the slots, and the slots
   abbrev pub lent : Fml
-  lent = fsep (flent (life z) P) (owed R z)
+  lent = fsep (flent (life z) P) (owed R Q z)
 
-  abbrev pub standing : Bool × (State R.Denot V × ℕ) → Fml
-  standing t = fsep (words_in z (word_of t.1.0) t.1.1) (fsep (counted t.0 (word_of t.1.0) t.1.1) (fsep (fsep (shelf R z 0 t.1.0.homes) lent) (views_in t.1.0)))
+  -- while the block is in memory: its words, what is not out of its counts, the slots at home, and the views
+  abbrev pub standing : Bool × (State (Place R.Denot Q.Denot) V × ℕ) → Fml
+  standing t = fsep (words_in z (word_of t.1.0) t.1.1) (fsep (counted t.0 (word_of t.1.0) t.1.1) (fsep (fsep (shelf R Q z 0 t.1.0.homes) lent) (views_in t.1.0)))
 
-  abbrev pub ghostly : State R.Denot V → Fml
+  -- once it is gone: the views alone, which the rule still binds
+  abbrev pub ghostly : State (Place R.Denot Q.Denot) V → Fml
   ghostly s = fsep (fact (word_of s < 18446744073709551616)) (views_in s)
 
+  -- the block is in memory; or it is gone, and both lifetimes are dead
   abbrev pub stands : Bool → Fml
-  stands true = fex (Bool × (State R.Denot V × ℕ)) standing
-  stands false = fsep (fsep (fdead (life z)) (fdead (stay z))) (fex (State R.Denot V) ghostly)
+  stands true = fex (Bool × (State (Place R.Denot Q.Denot) V × ℕ)) standing
+  stands false = fsep (fsep (fdead (life z)) (fdead (stay z))) (fex (State (Place R.Denot Q.Denot) V) ghostly)
 
+  -- what the invariant says: one of the two
   abbrev pub block : Fml
   block = fex Bool stands
 
@@ -151,26 +177,32 @@ module _ (R : RattleType) {V : Type 0} (c : V → Gv) (holds : State R.Denot V �
   kept = finv block
 
   -- the memory at the end
-  abbrev pub remaining : Option (ℕ × V) → State R.Denot V × ℕ → Fml
-  remaining seat t = fsep (words_in z (word_of t.0) t.1) (fsep (fsep (fdead (life z)) (fsep (shelf R z 0 t.0.homes) lent)) (fact (Fits (Known holds seat) t.0)))
+  abbrev pub remaining : Option (ℕ × V) → State (Place R.Denot Q.Denot) V × ℕ → Fml
+  remaining seat t = fsep (words_in z (word_of t.0) t.1) (fsep (fsep (fdead (life z)) (fsep (shelf R Q z 0 t.0.homes) lent)) (fact (Fits (Known holds seat) t.0)))
 
+  -- the same, in some state that keeps the rule
   abbrev pub remains : Option (ℕ × V) → Fml
-  remains seat = fex (State R.Denot V × ℕ) (remaining seat)
+  remains seat = fex (State (Place R.Denot Q.Denot) V × ℕ) (remaining seat)
 
+  -- the same for whoever got the block, and nothing for others
   abbrev pub remains_if : Bool → Option (ℕ × V) → Fml
   remains_if true seat = remains seat
   remains_if false seat = ftrue
 
 -- what a share and a hold own, and what a `&` to each has of that, where t is how the value is lent
 module _ (kept : Fml) (t : Lft → Fml) (z : BlockId) where
+  -- a share: its parts of the counts, the invariant, and the right to look at the value
   abbrev pub share_owns : Fml
   share_owns = fsep (parts z) (fsep kept (t (life z)))
 
+  -- a `&` to a share, for as long as it lives
   abbrev pub share_shares : Lft → Fml
   share_shares = beside (beside (one (λ q. flft (life z) q)) (one (λ q. flft (stay z) q))) (beside (λ _. kept) (held (life z) t))
 
+  -- a hold: its parts of the counts, the invariant, and the right to look at the value
   abbrev pub hold_owns : Fml
   hold_owns = fsep (hold_parts z) (fsep kept (t (life z)))
 
+  -- a `&` to a hold, for as long as it lives
   abbrev pub hold_shares : Lft → Fml
   hold_shares = beside (one (λ q. flft (life z) q)) (held (life z) t)

@@ -26,5 +26,5 @@ module _ {S V : Type 0} where
 
   -- a seat goes on by itself: an `Allows` of a load, whose act is `keeps`
   abbrev pub Notes : (State S V → Type 0) → ℕ → Me S V → (ℕ → Me S V → Type 0) → Type 0
-  Notes holds id me then = (s : State S V) → holds s → length s.homes ≡ 3 → get_elem? s.views id ≡ some me.0 → slice_index s.words 0 < 18446744073709551616
+  Notes holds id me then = (s : State S V) → holds s → length s.homes ≡ 2 → get_elem? s.views id ≡ some me.0 → slice_index s.words 0 < 18446744073709551616
       → (w : V) × holds (stepped s 0 (slice_index s.words 0) id me.1 w keeps) × then (slice_index s.words 0) (w, me.1)

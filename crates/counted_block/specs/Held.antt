@@ -13,57 +13,70 @@ use denote.Struct.Lending.{lent_at}
 use Rattle.std.specs.Box.Ownership.{box_owns}
 use Rattle.atomic_table.specs.Table.{State}
 use Rattle.atomic_table.specs.Seated.{fact}
-use Rattle.counted_block.specs.Layout.{at_slot, at_value}
+use Rattle.counted_block.specs.declared.place.Place.{Place}
+use Rattle.counted_block.specs.Layout.{at_first, at_second, at_value}
 use Rattle.counted_block.specs.Blocks.{BlockId, life, place, words_in, parts_if, hold_parts_if, kept, remains_if, share_owns, share_shares, hold_owns, hold_shares}
 use Rattle.counted_block.specs.contracts.inner.Inner.{the_row}
 
-module _ (R T : RattleType) (t : Ty → Ptr → Fml) (z : BlockId) (x : T.Denot) where
+module _ (R Q T : RattleType) (t : Ty → Ptr → Fml) (z : BlockId) (x : T.Denot) where
+  -- the value lies in its place in the block
   abbrev pub value_there : Fml
-  value_there = lies_at T full_share (place z +ₚ at_value R T) x
+  value_there = lies_at T full_share (place z +ₚ at_value R Q T) x
 
-  abbrev pub slots_there : R.Denot × (R.Denot × R.Denot) → Fml
-  slots_there s = fsep (part_at R full_share s.0 z.block (z.offset + at_slot R 0)) (fsep (part_at R full_share s.1.0 z.block (z.offset + at_slot R 1)) (part_at R full_share s.1.1 z.block (z.offset + at_slot R 2)))
+  -- both slots lie in the block, with these contents
+  abbrev pub slots_there : R.Denot × Q.Denot → Fml
+  slots_there s = fsep (part_at R full_share s.0 z.block (z.offset + at_first R)) (part_at Q full_share s.1 z.block (z.offset + at_second R Q))
 
   -- the words, the slots and the value make the box again
-  abbrev pub boxed : (ℕ × ℕ) × (R.Denot × (R.Denot × R.Denot)) → Fml
-  boxed m = fwand (fsep (words_in z m.0.0 m.0.1) (fsep (slots_there m.1) value_there)) (box_owns t (the_row R T) (place z) record { word = m.0.0; holds = m.0.1; first = m.1.0; second = m.1.1.0; third = m.1.1.1; value = x })
+  abbrev pub boxed : (ℕ × ℕ) × (R.Denot × Q.Denot) → Fml
+  boxed m = fwand (fsep (words_in z m.0.0 m.0.1) (fsep (slots_there m.1) value_there)) (box_owns t (the_row R Q T) (place z) record { word = m.0.0; holds = m.0.1; first = m.1.0; second = m.1.1; value = x })
 
+  -- the same, whatever words and slots hold by then
   abbrev pub rebox : Fml
-  rebox = fall ((ℕ × ℕ) × (R.Denot × (R.Denot × R.Denot))) boxed
+  rebox = fall ((ℕ × ℕ) × (R.Denot × Q.Denot)) boxed
 
   -- what is lent beside the slots while anything is out
   abbrev pub content : Fml
   content = fsep value_there rebox
 
+  -- the value as it is lent for a lifetime, to be looked at
   abbrev pub looked_at : Lft → Fml
-  looked_at = lent_at T (place z +ₚ at_value R T) x
+  looked_at = lent_at T (place z +ₚ at_value R Q T) x
 
-module _ (R T : RattleType) {V : Type 0} (c : V → Gv) (holds : State R.Denot V → Type 0) (out : ℕ → ℕ) (t : Ty → Ptr → Fml) (z : BlockId) (x : T.Denot) where
+module _ (R Q T : RattleType) {V : Type 0} (c : V → Gv) (holds : State (Place R.Denot Q.Denot) V → Type 0) (out : ℕ → ℕ) (t : Ty → Ptr → Fml) (z : BlockId) (x : T.Denot) where
+  -- the block's invariant, in which the value and the right to free the box are lent
   abbrev pub kept_of : Fml
-  kept_of = kept R c holds out (content R T t z x) z
+  kept_of = kept R Q c holds out (content R Q T t z x) z
 
+  -- the pointer is to this block
   abbrev pub lies_in : Ptr → Fml
   lies_in p = fact (p ≡ place z)
 
   module _ (p : Ptr) where
+    -- what a share owns, which is a pointer
     abbrev pub share_of : Fml
-    share_of = fsep (lies_in p) (share_owns kept_of (looked_at R T t z x) z)
+    share_of = fsep (lies_in p) (share_owns kept_of (looked_at R Q T t z x) z)
 
+    -- what a `&` to it has
     abbrev pub share_shown : Lft → Fml
-    share_shown = beside (said (lies_in p)) (share_shares kept_of (looked_at R T t z x) z)
+    share_shown = beside (said (lies_in p)) (share_shares kept_of (looked_at R Q T t z x) z)
 
+    -- what a hold owns, which is a pointer
     abbrev pub hold_of : Fml
-    hold_of = fsep (lies_in p) (hold_owns kept_of (looked_at R T t z x) z)
+    hold_of = fsep (lies_in p) (hold_owns kept_of (looked_at R Q T t z x) z)
 
+    -- what a `&` to it has
     abbrev pub hold_shown : Lft → Fml
-    hold_shown = beside (said (lies_in p)) (hold_shares kept_of (looked_at R T t z x) z)
+    hold_shown = beside (said (lies_in p)) (hold_shares kept_of (looked_at R Q T t z x) z)
 
     -- the same where a step made them, and else what every one of them has
     abbrev pub maybe_share_of : Bool → Fml
-    maybe_share_of y = fsep (lies_in p) (fsep (parts_if y z) (fsep kept_of (looked_at R T t z x (life z))))
+    maybe_share_of y = fsep (lies_in p) (fsep (parts_if y z) (fsep kept_of (looked_at R Q T t z x (life z))))
 
+    -- the same of a hold
     abbrev pub maybe_hold_of : Bool → Fml
-    maybe_hold_of y = fsep (lies_in p) (fsep (hold_parts_if y z) (fsep kept_of (looked_at R T t z x (life z))))
+    maybe_hold_of y = fsep (lies_in p) (fsep (hold_parts_if y z) (fsep kept_of (looked_at R Q T t z x (life z))))
 
+    -- what an ended share or hold leaves to its owner: all of the memory where it got the block
     abbrev pub remains_of : Bool → Option (ℕ × V) → Fml
-    remains_of y seat = fsep (lies_in p) (remains_if R c holds out (content R T t z x) z y seat)
+    remains_of y seat = fsep (lies_in p) (remains_if R Q c holds out (content R Q T t z x) z y seat)

@@ -4,6 +4,7 @@ ghost use mathlib.Core.Bool.{not};
 ghost use mathlib.Core.Option.{some};
 ghost use Rattle.atomic_table.specs.Table.{Final, Seen};
 ghost use Rattle.counted_block.specs.Counts.{Last};
+ghost use Rattle.counted_block.specs.declared.place.Place.TheVariants.{First, Second};
 
 use crate::bare::Bare;
 use crate::inner::Inner;
@@ -19,12 +20,16 @@ use std::sync::atomic::raw;
 // What the closer adds to the holds when it leaves.
 const LEFT: u64 = 1 << 63;
 
-impl<S, V, K, P: BlockRule<S, V, K>, T, A: Allocator> Share<S, V, K, P, T, A> {
+impl<S, W, V, K, P: BlockRule<S, W, V, K>, T, A: Allocator> Share<S, W, V, K, P, T, A> {
     // Looks whether there is a hold. If there is none, the block has ended: only a share makes holds, and this one is the last.
     fn look(
         self,
-        seat: &mut Seat<S, V>,
-    ) -> (u64, MaybeShare<S, V, K, P, T, A>, Remains<S, V, K, P, T, A>)
+        seat: &mut Seat<S, W, V>,
+    ) -> (
+        u64,
+        MaybeShare<S, W, V, K, P, T, A>,
+        Remains<S, W, V, K, P, T, A>,
+    )
         requires block { seat.old.block ≡ self.id }
         requires last { Last (P.holds self.key) P.out seat.old.id seat.old.me.0 }
         ensures seat { (seat.new.block ≡ seat.old.block) × (seat.new.id ≡ seat.old.id) × (seat.new.me ≡ seat.old.me) }
@@ -45,7 +50,7 @@ impl<S, V, K, P: BlockRule<S, V, K>, T, A: Allocator> Share<S, V, K, P, T, A> {
     }
 
     // Ends the share, and the block too if the last hold was released meanwhile.
-    fn leave(self, seat: &mut Seat<S, V>) -> (u64, Remains<S, V, K, P, T, A>)
+    fn leave(self, seat: &mut Seat<S, W, V>) -> (u64, Remains<S, W, V, K, P, T, A>)
         requires block { seat.old.block ≡ self.id }
         requires last { Last (P.holds self.key) P.out seat.old.id seat.old.me.0 }
         ensures seat { (seat.new.block ≡ seat.old.block) × (seat.new.id ≡ seat.old.id) × (seat.new.me ≡ seat.old.me) }
@@ -64,11 +69,11 @@ impl<S, V, K, P: BlockRule<S, V, K>, T, A: Allocator> Share<S, V, K, P, T, A> {
     ///
     /// `seat` is one whose view says that no other share is out. None if there is a hold: then the last one gets the block, from `release`.
     /// It costs one load where nobody holds, and an addition more where somebody does.
-    pub fn close(self, seat: &mut Seat<S, V>) -> Option<Bare<Inner<S, T>, A>>
+    pub fn close(self, seat: &mut Seat<S, W, V>) -> Option<Bare<Inner<S, W, T>, A>>
         requires block { seat.old.block ≡ self.id }
         requires last { Last (P.holds self.key) P.out seat.old.id seat.old.me.0 }
         ensures seat { (seat.new.block ≡ seat.old.block) × (seat.new.id ≡ seat.old.id) × (seat.new.me ≡ seat.old.me) }
-        ensures block { IfSome result (λ b. (b.value.value ≡ self.value) × (b.heap ≡ self.heap) × Final (Seen (P.holds self.key) seat.old.id seat.old.me.0) (b.value.word ∷ []) (b.value.first ∷ b.value.second ∷ b.value.third ∷ [])) }
+        ensures block { IfSome result (λ b. (b.value.value ≡ self.value) × (b.heap ≡ self.heap) × Final (Seen (P.holds self.key) seat.old.id seat.old.me.0) (b.value.word ∷ []) (First b.value.first ∷ Second b.value.second ∷ [])) }
     {
         let (held, share, remains) = self.look(seat);
         if held == 0 {

@@ -5,6 +5,7 @@ ghost use mathlib.Core.Option.{none};
 ghost use Rattle.atomic_table.specs.Table.{Final};
 ghost use Rattle.counted_block.specs.Blocks.{BlockId, block_id_coded};
 ghost use Rattle.counted_block.specs.Held.{hold_of, hold_shown, maybe_hold_of};
+ghost use Rattle.counted_block.specs.declared.place.Place.TheVariants.{First, Second};
 
 use crate::bare::Bare;
 use crate::inner::Inner;
@@ -25,8 +26,8 @@ const LAST: u64 = FULL + 2;
 /// It keeps the memory and sees the value, but makes no step on the word and reaches no slot.
 ///
 /// It may outlive every share. It has no `Drop`: `release` ends it, since the last hold gets the block. It may cross threads, and may be shared.
-pub struct Hold<S, V, K, P: BlockRule<S, V, K>, T, A: Allocator> {
-    pub(crate) at: *const Inner<S, T>,
+pub struct Hold<S, W, V, K, P: BlockRule<S, W, V, K>, T, A: Allocator> {
+    pub(crate) at: *const Inner<S, W, T>,
     pub(crate) marker: PhantomData<(V, K, P, A)>,
     pub ghost id: { BlockId } by { block_id_coded },
     pub ghost key: { K },
@@ -34,15 +35,15 @@ pub struct Hold<S, V, K, P: BlockRule<S, V, K>, T, A: Allocator> {
     pub ghost heap: { A },
 }
 
-impl<S, V, K, P: BlockRule<S, V, K>, T, A: Allocator> Model for Hold<S, V, K, P, T, A> {
-    ghost also_owns = { λ h. hold_of S.row T.row V.row.coded.code (P.holds h.key) P.out (A.dealloc_token h.heap) h.id h.value h.at };
+impl<S, W, V, K, P: BlockRule<S, W, V, K>, T, A: Allocator> Model for Hold<S, W, V, K, P, T, A> {
+    ghost also_owns = { λ h. hold_of S.row W.row T.row V.row.coded.code (P.holds h.key) P.out (A.dealloc_token h.heap) h.id h.value h.at };
 
-    ghost also_shares = { λ h _ κ. hold_shown S.row T.row V.row.coded.code (P.holds h.key) P.out (A.dealloc_token h.heap) h.id h.value h.at κ };
+    ghost also_shares = { λ h _ κ. hold_shown S.row W.row T.row V.row.coded.code (P.holds h.key) P.out (A.dealloc_token h.heap) h.id h.value h.at κ };
 }
 
 // A hold where it is `there`.
-pub(crate) struct MaybeHold<S, V, K, P: BlockRule<S, V, K>, T, A: Allocator> {
-    pub(crate) at: *const Inner<S, T>,
+pub(crate) struct MaybeHold<S, W, V, K, P: BlockRule<S, W, V, K>, T, A: Allocator> {
+    pub(crate) at: *const Inner<S, W, T>,
     pub(crate) marker: PhantomData<(V, K, P, A)>,
     pub ghost id: { BlockId } by { block_id_coded },
     pub ghost key: { K },
@@ -51,12 +52,13 @@ pub(crate) struct MaybeHold<S, V, K, P: BlockRule<S, V, K>, T, A: Allocator> {
     pub ghost there: { Bool },
 }
 
-impl<S, V, K, P: BlockRule<S, V, K>, T, A: Allocator> Model for MaybeHold<S, V, K, P, T, A> {
-    ghost also_owns = { λ h. maybe_hold_of S.row T.row V.row.coded.code (P.holds h.key) P.out (A.dealloc_token h.heap) h.id h.value h.at h.there };
+impl<S, W, V, K, P: BlockRule<S, W, V, K>, T, A: Allocator> Model
+    for MaybeHold<S, W, V, K, P, T, A> {
+    ghost also_owns = { λ h. maybe_hold_of S.row W.row T.row V.row.coded.code (P.holds h.key) P.out (A.dealloc_token h.heap) h.id h.value h.at h.there };
 }
 
-impl<S, V, K, P: BlockRule<S, V, K>, T, A: Allocator> MaybeHold<S, V, K, P, T, A> {
-    fn hold(self) -> Hold<S, V, K, P, T, A>
+impl<S, W, V, K, P: BlockRule<S, W, V, K>, T, A: Allocator> MaybeHold<S, W, V, K, P, T, A> {
+    fn hold(self) -> Hold<S, W, V, K, P, T, A>
         requires { self.there ≡ true }
         ensures { (result.id ≡ self.id) × (result.key ≡ self.key) × (result.value ≡ self.value) × (result.heap ≡ self.heap) }
     {
@@ -74,9 +76,9 @@ impl<S, V, K, P: BlockRule<S, V, K>, T, A: Allocator> MaybeHold<S, V, K, P, T, A
     }
 }
 
-impl<S, V, K, P: BlockRule<S, V, K>, T, A: Allocator> Share<S, V, K, P, T, A> {
+impl<S, W, V, K, P: BlockRule<S, W, V, K>, T, A: Allocator> Share<S, W, V, K, P, T, A> {
     // Adds a hold, unless there are as many as may be. Answers how many there were.
-    fn try_hold(&self) -> (u64, MaybeHold<S, V, K, P, T, A>)
+    fn try_hold(&self) -> (u64, MaybeHold<S, W, V, K, P, T, A>)
         ensures { (result.1.id ≡ self.now.id) × (result.1.key ≡ self.now.key) × (result.1.value ≡ self.now.value) × (result.1.heap ≡ self.now.heap) × (result.1.there ≡ not (result.0 == 9223372036854775807)) }
     {
         let found = unsafe {
@@ -90,7 +92,7 @@ impl<S, V, K, P: BlockRule<S, V, K>, T, A: Allocator> Share<S, V, K, P, T, A> {
     }
 
     /// Makes a hold, in one step that waits for nobody. None if there are 2^63 - 1 holds already, and then nothing has changed.
-    pub fn hold(&self) -> Option<Hold<S, V, K, P, T, A>>
+    pub fn hold(&self) -> Option<Hold<S, W, V, K, P, T, A>>
         ensures { IfSome result (λ h. (h.id ≡ self.now.id) × (h.key ≡ self.now.key) × (h.value ≡ self.now.value) × (h.heap ≡ self.now.heap)) }
     {
         let (found, maybe) = self.try_hold();
@@ -103,7 +105,7 @@ impl<S, V, K, P: BlockRule<S, V, K>, T, A: Allocator> Share<S, V, K, P, T, A> {
     }
 }
 
-impl<S, V, K, P: BlockRule<S, V, K>, T, A: Allocator> Hold<S, V, K, P, T, A> {
+impl<S, W, V, K, P: BlockRule<S, W, V, K>, T, A: Allocator> Hold<S, W, V, K, P, T, A> {
     /// Looks at the value of the block.
     pub fn value(&self) -> &T
         ensures { result.now ≡ self.now.value }
@@ -112,7 +114,7 @@ impl<S, V, K, P: BlockRule<S, V, K>, T, A: Allocator> Hold<S, V, K, P, T, A> {
     }
 
     // Takes one hold away. Answers how many there were.
-    fn give_up(self) -> (u64, Remains<S, V, K, P, T, A>)
+    fn give_up(self) -> (u64, Remains<S, W, V, K, P, T, A>)
         ensures { (result.1.id ≡ self.id) × (result.1.key ≡ self.key) × (result.1.value ≡ self.value) × (result.1.heap ≡ self.heap) × (result.1.seat ≡ none) × (result.1.there ≡ result.0 == 9223372036854775809) }
     {
         let Hold { at, marker: _ } = self;
@@ -127,8 +129,8 @@ impl<S, V, K, P: BlockRule<S, V, K>, T, A: Allocator> Hold<S, V, K, P, T, A> {
     /// Ends the hold. The last one after `close` has left the block to the holds gets it, in a state that kept the rule to the end; each slot that was at home there has its value.
     ///
     /// None if somebody else has the block still: another hold, or a share.
-    pub fn release(self) -> Option<Bare<Inner<S, T>, A>>
-        ensures { IfSome result (λ b. (b.value.value ≡ self.value) × (b.heap ≡ self.heap) × Final (P.holds self.key) (b.value.word ∷ []) (b.value.first ∷ b.value.second ∷ b.value.third ∷ [])) }
+    pub fn release(self) -> Option<Bare<Inner<S, W, T>, A>>
+        ensures { IfSome result (λ b. (b.value.value ≡ self.value) × (b.heap ≡ self.heap) × Final (P.holds self.key) (b.value.word ∷ []) (First b.value.first ∷ Second b.value.second ∷ [])) }
     {
         let (found, remains) = self.give_up();
         if found == LAST {
@@ -140,8 +142,22 @@ impl<S, V, K, P: BlockRule<S, V, K>, T, A: Allocator> Hold<S, V, K, P, T, A> {
     }
 }
 
-unsafe impl<S: Send, V, K, P: BlockRule<S, V, K>, T: Send + Sync, A: Allocator + Send + Sync> Send
-    for Hold<S, V, K, P, T, A> {}
+unsafe impl<
+    S: Send,
+    W: Send,
+    V,
+    K,
+    P: BlockRule<S, W, V, K>,
+    T: Send + Sync,
+    A: Allocator + Send + Sync,
+> Send for Hold<S, W, V, K, P, T, A> {}
 
-unsafe impl<S: Send, V, K, P: BlockRule<S, V, K>, T: Send + Sync, A: Allocator + Send + Sync> Sync
-    for Hold<S, V, K, P, T, A> {}
+unsafe impl<
+    S: Send,
+    W: Send,
+    V,
+    K,
+    P: BlockRule<S, W, V, K>,
+    T: Send + Sync,
+    A: Allocator + Send + Sync,
+> Sync for Hold<S, W, V, K, P, T, A> {}

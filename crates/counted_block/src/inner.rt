@@ -2,7 +2,7 @@
 
 /// The words, the slots, and the value beside them.
 #[derive(Drop)]
-pub struct Inner<S, T> {
+pub struct Inner<S, W, T> {
     /// The user's word. A new block begins with it, and the rule says how many shares it stands for.
     pub word: u64,
     /// How many holds there are, with 2^63 more once the last share is gone. A new block has 0 here.
@@ -10,9 +10,7 @@ pub struct Inner<S, T> {
     /// The slot 0.
     pub first: S,
     /// The slot 1.
-    pub second: S,
-    /// The slot 2.
-    pub third: S,
+    pub second: W,
     /// What each share and each hold can look at. It never changes while the block is shared.
     pub value: T,
 }

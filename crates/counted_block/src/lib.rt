@@ -1,4 +1,4 @@
-//! One heap block: a word of the user's, a word of holds, three slots and a value. Its memory goes by the words: how many shares of it are out is a function of the first, under a rule of the user's, and the second counts the holds.
+//! One heap block: a word of the user's, a word of holds, two slots and a value. Its memory goes by the words: how many shares of it are out is a function of the first, under a rule of the user's, and the second counts the holds.
 //!
 //! A crate above it writes safe code, and proves facts about plain data.
 #![tactic(auto)]
@@ -10,6 +10,7 @@ mod hold;
 mod inner;
 mod lends;
 mod making;
+mod place;
 mod remains;
 mod rule;
 mod seat;
@@ -20,6 +21,7 @@ mod walking;
 pub use bare::Bare;
 pub use hold::Hold;
 pub use inner::Inner;
+pub use place::Place;
 pub use rule::{BlockRule, CountPlay};
 pub use seat::{Ledger, Seat};
 pub use share::{MaybeShare, Share};

@@ -1,6 +1,7 @@
 // A block begins with one share or two, and one seat.
 ghost use Rattle.std.specs.Prelude.{◌≡◌, [], ◌∷◌};
 ghost use Rattle.atomic_table.specs.Table.{opening};
+ghost use Rattle.counted_block.specs.declared.place.Place.TheVariants.{First, Second};
 
 use crate::bare::Bare;
 use crate::inner::Inner;
@@ -10,14 +11,17 @@ use crate::share::Share;
 use std::alloc::Allocator;
 use std::marker::PhantomData;
 
-impl<S, V, K, P: BlockRule<S, V, K>, T, A: Allocator> Share<S, V, K, P, T, A> {
+impl<S, W, V, K, P: BlockRule<S, W, V, K>, T, A: Allocator> Share<S, W, V, K, P, T, A> {
     /// Makes a block of `bare`, with one share and one seat. `about` is the key that the rule reads.
     ///
     /// The rule has to hold of the state at the start, the word has to stand for one share, and there is no hold yet.
-    pub fn new(bare: Bare<Inner<S, T>, A>, about: &K) -> (Share<S, V, K, P, T, A>, Seat<S, V>)
+    pub fn new(
+        bare: Bare<Inner<S, W, T>, A>,
+        about: &K,
+    ) -> (Share<S, W, V, K, P, T, A>, Seat<S, W, V>)
         requires shares { P.out bare.value.word ≡ 1 }
         requires holds { bare.value.holds ≡ 0 }
-        requires rule { P.holds about.now (opening (bare.value.word ∷ []) (bare.value.first ∷ bare.value.second ∷ bare.value.third ∷ []) (P.first about.now)) }
+        requires rule { P.holds about.now (opening (bare.value.word ∷ []) (First bare.value.first ∷ Second bare.value.second ∷ []) (P.first about.now)) }
         ensures share { (result.0.key ≡ about.now) × (result.0.value ≡ bare.value.value) × (result.0.heap ≡ bare.heap) }
         ensures seat { (result.1.block ≡ result.0.id) × (result.1.id ≡ 0) × (result.1.me ≡ (P.first about.now, [])) }
     {
@@ -35,12 +39,16 @@ impl<S, V, K, P: BlockRule<S, V, K>, T, A: Allocator> Share<S, V, K, P, T, A> {
 
     /// The same where the word at the start stands for two shares. So two owners begin without a step between.
     pub fn new_pair(
-        bare: Bare<Inner<S, T>, A>,
+        bare: Bare<Inner<S, W, T>, A>,
         about: &K,
-    ) -> (Share<S, V, K, P, T, A>, Share<S, V, K, P, T, A>, Seat<S, V>)
+    ) -> (
+        Share<S, W, V, K, P, T, A>,
+        Share<S, W, V, K, P, T, A>,
+        Seat<S, W, V>,
+    )
         requires shares { P.out bare.value.word ≡ 2 }
         requires holds { bare.value.holds ≡ 0 }
-        requires rule { P.holds about.now (opening (bare.value.word ∷ []) (bare.value.first ∷ bare.value.second ∷ bare.value.third ∷ []) (P.first about.now)) }
+        requires rule { P.holds about.now (opening (bare.value.word ∷ []) (First bare.value.first ∷ Second bare.value.second ∷ []) (P.first about.now)) }
         ensures share { (result.0.key ≡ about.now) × (result.0.value ≡ bare.value.value) × (result.0.heap ≡ bare.heap) }
         ensures other { (result.1.id ≡ result.0.id) × (result.1.key ≡ about.now) × (result.1.value ≡ bare.value.value) × (result.1.heap ≡ bare.heap) }
         ensures seat { (result.2.block ≡ result.0.id) × (result.2.id ≡ 0) × (result.2.me ≡ (P.first about.now, [])) }

@@ -4,6 +4,7 @@ ghost use mathlib.Core.Option.{Option};
 ghost use Rattle.atomic_table.specs.Table.{Final};
 ghost use Rattle.counted_block.specs.Blocks.{BlockId, block_id_coded, Known};
 ghost use Rattle.counted_block.specs.Held.{remains_of};
+ghost use Rattle.counted_block.specs.declared.place.Place.TheVariants.{First, Second};
 
 use crate::bare::Bare;
 use crate::inner::Inner;
@@ -12,8 +13,8 @@ use std::alloc::Allocator;
 use std::marker::{Model, PhantomData};
 
 // The memory where it is `there`. `seat` is whose view the last state has.
-pub(crate) struct Remains<S, V, K, P: BlockRule<S, V, K>, T, A: Allocator> {
-    pub(crate) at: *const Inner<S, T>,
+pub(crate) struct Remains<S, W, V, K, P: BlockRule<S, W, V, K>, T, A: Allocator> {
+    pub(crate) at: *const Inner<S, W, T>,
     pub(crate) marker: PhantomData<(V, K, P, A)>,
     pub ghost id: { BlockId } by { block_id_coded },
     pub ghost key: { K },
@@ -23,15 +24,15 @@ pub(crate) struct Remains<S, V, K, P: BlockRule<S, V, K>, T, A: Allocator> {
     pub ghost seat: { Option (ℕ × V) },
 }
 
-impl<S, V, K, P: BlockRule<S, V, K>, T, A: Allocator> Model for Remains<S, V, K, P, T, A> {
-    ghost also_owns = { λ h. remains_of S.row T.row V.row.coded.code (P.holds h.key) P.out (A.dealloc_token h.heap) h.id h.value h.at h.there h.seat };
+impl<S, W, V, K, P: BlockRule<S, W, V, K>, T, A: Allocator> Model for Remains<S, W, V, K, P, T, A> {
+    ghost also_owns = { λ h. remains_of S.row W.row T.row V.row.coded.code (P.holds h.key) P.out (A.dealloc_token h.heap) h.id h.value h.at h.there h.seat };
 }
 
-impl<S, V, K, P: BlockRule<S, V, K>, T, A: Allocator> Remains<S, V, K, P, T, A> {
+impl<S, W, V, K, P: BlockRule<S, W, V, K>, T, A: Allocator> Remains<S, W, V, K, P, T, A> {
     // The block. A slot that was at home has its value.
-    pub(crate) fn bare(self) -> Bare<Inner<S, T>, A>
+    pub(crate) fn bare(self) -> Bare<Inner<S, W, T>, A>
         requires { self.there ≡ true }
-        ensures { (result.value.value ≡ self.value) × (result.heap ≡ self.heap) × Final (Known (P.holds self.key) self.seat) (result.value.word ∷ []) (result.value.first ∷ result.value.second ∷ result.value.third ∷ []) }
+        ensures { (result.value.value ≡ self.value) × (result.heap ≡ self.heap) × Final (Known (P.holds self.key) self.seat) (result.value.word ∷ []) (First result.value.first ∷ Second result.value.second ∷ []) }
     {
         let Remains { at, marker: _ } = self;
         Bare {

@@ -1,13 +1,18 @@
 // What the user of a block says of it.
 ghost use Rattle.std.specs.Prelude.{ℕ, Bool};
-ghost use Rattle.atomic_table.specs.Table.{Step};
+ghost use Rattle.atomic_table.specs.Table.{State, Step};
+ghost use Rattle.counted_block.specs.declared.place.Place.{Place};
 
-use atomic_table::{Play, TableRule};
+use atomic_table::Play;
 
-/// A rule of one word and three slots, which also says how many shares are out.
+/// A rule of one word and two slots, which also says how many shares are out.
 ///
 /// So no step that moves the word can lose a share or make one up: it has to show what becomes of `out`.
-pub trait BlockRule<S, V, K>: TableRule<S, V, K> {
+pub trait BlockRule<S, W, V, K> {
+    // What holds of the word, the values at home and all views between any two steps.
+    ghost holds: { K → State (Place S W) V → Type 0 };
+    // The view of the first seat.
+    ghost first: { K → V };
     // How many shares are out where the word is this number. Only the word decides, so a thread that finds a number knows the count too.
     ghost out: { ℕ → ℕ };
 }

@@ -12,8 +12,8 @@ use std::marker::{Model, PhantomData};
 /// The right to step on the block, to look at its value, and to keep its memory.
 ///
 /// It has no `Drop`, since giving it up has to change the word: `part`, `part_exchange` and `close` end it. It may cross threads, and may be shared.
-pub struct Share<S, V, K, P: BlockRule<S, V, K>, T, A: Allocator> {
-    pub(crate) at: *const Inner<S, T>,
+pub struct Share<S, W, V, K, P: BlockRule<S, W, V, K>, T, A: Allocator> {
+    pub(crate) at: *const Inner<S, W, T>,
     pub(crate) marker: PhantomData<(V, K, P, A)>,
     pub ghost id: { BlockId } by { block_id_coded },
     pub ghost key: { K },
@@ -21,17 +21,17 @@ pub struct Share<S, V, K, P: BlockRule<S, V, K>, T, A: Allocator> {
     pub ghost heap: { A },
 }
 
-impl<S, V, K, P: BlockRule<S, V, K>, T, A: Allocator> Model for Share<S, V, K, P, T, A> {
-    ghost also_owns = { λ h. share_of S.row T.row V.row.coded.code (P.holds h.key) P.out (A.dealloc_token h.heap) h.id h.value h.at };
+impl<S, W, V, K, P: BlockRule<S, W, V, K>, T, A: Allocator> Model for Share<S, W, V, K, P, T, A> {
+    ghost also_owns = { λ h. share_of S.row W.row T.row V.row.coded.code (P.holds h.key) P.out (A.dealloc_token h.heap) h.id h.value h.at };
 
-    ghost also_shares = { λ h _ κ. share_shown S.row T.row V.row.coded.code (P.holds h.key) P.out (A.dealloc_token h.heap) h.id h.value h.at κ };
+    ghost also_shares = { λ h _ κ. share_shown S.row W.row T.row V.row.coded.code (P.holds h.key) P.out (A.dealloc_token h.heap) h.id h.value h.at κ };
 }
 
 /// What a step made or left of a share. The contract of the step says whether it is `there`, mostly by the number that the step found.
 ///
 /// It has no `Drop`: the caller looks at that number, and then calls `share` or `none`.
-pub struct MaybeShare<S, V, K, P: BlockRule<S, V, K>, T, A: Allocator> {
-    pub(crate) at: *const Inner<S, T>,
+pub struct MaybeShare<S, W, V, K, P: BlockRule<S, W, V, K>, T, A: Allocator> {
+    pub(crate) at: *const Inner<S, W, T>,
     pub(crate) marker: PhantomData<(V, K, P, A)>,
     pub ghost id: { BlockId } by { block_id_coded },
     pub ghost key: { K },
@@ -40,13 +40,14 @@ pub struct MaybeShare<S, V, K, P: BlockRule<S, V, K>, T, A: Allocator> {
     pub ghost there: { Bool },
 }
 
-impl<S, V, K, P: BlockRule<S, V, K>, T, A: Allocator> Model for MaybeShare<S, V, K, P, T, A> {
-    ghost also_owns = { λ h. maybe_share_of S.row T.row V.row.coded.code (P.holds h.key) P.out (A.dealloc_token h.heap) h.id h.value h.at h.there };
+impl<S, W, V, K, P: BlockRule<S, W, V, K>, T, A: Allocator> Model
+    for MaybeShare<S, W, V, K, P, T, A> {
+    ghost also_owns = { λ h. maybe_share_of S.row W.row T.row V.row.coded.code (P.holds h.key) P.out (A.dealloc_token h.heap) h.id h.value h.at h.there };
 }
 
-impl<S, V, K, P: BlockRule<S, V, K>, T, A: Allocator> MaybeShare<S, V, K, P, T, A> {
+impl<S, W, V, K, P: BlockRule<S, W, V, K>, T, A: Allocator> MaybeShare<S, W, V, K, P, T, A> {
     /// Takes the share, where the step made or left one.
-    pub fn share(self) -> Share<S, V, K, P, T, A>
+    pub fn share(self) -> Share<S, W, V, K, P, T, A>
         requires { self.there ≡ true }
         ensures { (result.id ≡ self.id) × (result.key ≡ self.key) × (result.value ≡ self.value) × (result.heap ≡ self.heap) }
     {
@@ -58,7 +59,7 @@ impl<S, V, K, P: BlockRule<S, V, K>, T, A: Allocator> MaybeShare<S, V, K, P, T, 
     }
 
     /// Spends this where there is no share. The ledger lets its seats note what they know, also after the block is gone.
-    pub fn none(self) -> Ledger<S, V, K, P, T, A>
+    pub fn none(self) -> Ledger<S, W, V, K, P, T, A>
         requires { self.there ≡ false }
         ensures { (result.id ≡ self.id) × (result.key ≡ self.key) × (result.value ≡ self.value) × (result.heap ≡ self.heap) }
     {
@@ -69,7 +70,7 @@ impl<S, V, K, P: BlockRule<S, V, K>, T, A: Allocator> MaybeShare<S, V, K, P, T, 
     }
 }
 
-impl<S, V, K, P: BlockRule<S, V, K>, T, A: Allocator> Share<S, V, K, P, T, A> {
+impl<S, W, V, K, P: BlockRule<S, W, V, K>, T, A: Allocator> Share<S, W, V, K, P, T, A> {
     /// Looks at the value of the block.
     pub fn value(&self) -> &T
         ensures { result.now ≡ self.now.value }
@@ -78,7 +79,7 @@ impl<S, V, K, P: BlockRule<S, V, K>, T, A: Allocator> Share<S, V, K, P, T, A> {
     }
 
     /// The share as what a step may have made or left: it is `there`. It costs nothing.
-    pub fn into_maybe(self) -> MaybeShare<S, V, K, P, T, A>
+    pub fn into_maybe(self) -> MaybeShare<S, W, V, K, P, T, A>
         ensures { (result.id ≡ self.id) × (result.key ≡ self.key) × (result.value ≡ self.value) × (result.heap ≡ self.heap) × (result.there ≡ true) }
     {
         let Share { at, marker: _ } = self;
@@ -89,7 +90,7 @@ impl<S, V, K, P: BlockRule<S, V, K>, T, A: Allocator> Share<S, V, K, P, T, A> {
     }
 
     /// What a step leaves where it leaves no share: it is not `there`. It costs nothing.
-    pub fn gone(&self) -> MaybeShare<S, V, K, P, T, A>
+    pub fn gone(&self) -> MaybeShare<S, W, V, K, P, T, A>
         ensures { (result.id ≡ self.now.id) × (result.key ≡ self.now.key) × (result.value ≡ self.now.value) × (result.heap ≡ self.now.heap) × (result.there ≡ false) }
     {
         MaybeShare {
@@ -104,7 +105,7 @@ impl<S, V, K, P: BlockRule<S, V, K>, T, A: Allocator> Share<S, V, K, P, T, A> {
     }
 
     /// Makes a ledger, by which its seats go on once the share is given up. It costs nothing.
-    pub fn ledger(&self) -> Ledger<S, V, K, P, T, A>
+    pub fn ledger(&self) -> Ledger<S, W, V, K, P, T, A>
         ensures { (result.id ≡ self.now.id) × (result.key ≡ self.now.key) × (result.value ≡ self.now.value) × (result.heap ≡ self.now.heap) }
     {
         Ledger {
@@ -113,8 +114,22 @@ impl<S, V, K, P: BlockRule<S, V, K>, T, A: Allocator> Share<S, V, K, P, T, A> {
     }
 }
 
-unsafe impl<S: Send, V, K, P: BlockRule<S, V, K>, T: Send + Sync, A: Allocator + Send + Sync> Send
-    for Share<S, V, K, P, T, A> {}
+unsafe impl<
+    S: Send,
+    W: Send,
+    V,
+    K,
+    P: BlockRule<S, W, V, K>,
+    T: Send + Sync,
+    A: Allocator + Send + Sync,
+> Send for Share<S, W, V, K, P, T, A> {}
 
-unsafe impl<S: Send, V, K, P: BlockRule<S, V, K>, T: Send + Sync, A: Allocator + Send + Sync> Sync
-    for Share<S, V, K, P, T, A> {}
+unsafe impl<
+    S: Send,
+    W: Send,
+    V,
+    K,
+    P: BlockRule<S, W, V, K>,
+    T: Send + Sync,
+    A: Allocator + Send + Sync,
+> Sync for Share<S, W, V, K, P, T, A> {}

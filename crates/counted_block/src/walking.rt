@@ -1,39 +1,39 @@
 // The steps that leave as many shares out as there were. Each asks for `Same` beside what the table's rule asks for.
-ghost use Rattle.std.specs.Prelude.{◌≡◌, ◌==◌, ◌+◌, ◌-◌, ◌%◌, ◌^◌, [], ◌∷◌, bit_and, bit_or};
+ghost use Rattle.std.specs.Prelude.{◌≡◌, [], bit_and, bit_or};
 ghost use mathlib.Core.Option.{none};
-ghost use prog.Atomic.{either};
 ghost use Rattle.atomic_table.specs.Table.{step, Allows, Enters, Splits};
 ghost use Rattle.counted_block.specs.Counts.{Same};
 
+use crate::place::Place;
 use crate::rule::BlockRule;
 use crate::seat::Seat;
 use crate::share::Share;
-use atomic_table::{Play, Split, exchange};
+use atomic_table::{Play, Split};
 use std::alloc::Allocator;
 use std::marker::{Brand, PhantomData};
 use std::sync::atomic::Ordering::SeqCst;
 use std::sync::atomic::raw;
 
-impl<S, V, K, P: BlockRule<S, V, K>, T, A: Allocator> Share<S, V, K, P, T, A> {
+impl<S, W, V, K, P: BlockRule<S, W, V, K>, T, A: Allocator> Share<S, W, V, K, P, T, A> {
     /// Loads the word with no seat. So it tells nothing, and serves as the first guess of a compare-exchange.
     pub fn peek(&self) -> u64 {
         unsafe { raw::load::<Brand>(&raw const (*self.at).word, SeqCst) }
     }
 
     /// Loads the word. `seat` may learn from the number, and may take or give a slot.
-    pub fn load<M: Play<S, V>>(&self, seat: &mut Seat<S, V>) -> u64
+    pub fn load<M: Play<Place<S, W>, V>>(&self, seat: &mut Seat<S, W, V>) -> u64
         requires block { seat.old.block ≡ self.now.id }
-        requires allowed { Allows (P.holds self.now.key) 3 seat.old.id seat.old.me 0 (λ n. n) (M.then (step 3 0 0 0 none) seat.old.me) }
+        requires allowed { Allows (P.holds self.now.key) 2 seat.old.id seat.old.me 0 (λ n. n) (M.then (step 2 0 0 0 none) seat.old.me) }
         requires shares { Same (P.holds self.now.key) P.out seat.old.id seat.old.me.0 (λ n. n) }
-        ensures { (seat.new.block ≡ seat.old.block) × (seat.new.id ≡ seat.old.id) × M.then (step 3 0 0 0 none) seat.old.me result seat.new.me }
+        ensures { (seat.new.block ≡ seat.old.block) × (seat.new.id ≡ seat.old.id) × M.then (step 2 0 0 0 none) seat.old.me result seat.new.me }
     {
         unsafe { raw::load::<Brand>(&raw const (*self.at).word, SeqCst) }
     }
 
     /// Loads the word, and makes a new seat, whose view the rule has to allow whatever the number is.
-    pub fn load_new_seat<M: Play<S, V>>(&self) -> (u64, Seat<S, V>)
-        requires allowed { Enters (P.holds self.now.key) 3 0 (λ n w. M.then (step 3 0 0 0 none) (P.first self.now.key, []) n (w, [])) }
-        ensures { (result.1.block ≡ self.now.id) × (result.1.me.1 ≡ []) × M.then (step 3 0 0 0 none) (P.first self.now.key, []) result.0 result.1.me }
+    pub fn load_new_seat<M: Play<Place<S, W>, V>>(&self) -> (u64, Seat<S, W, V>)
+        requires allowed { Enters (P.holds self.now.key) 2 0 (λ n w. M.then (step 2 0 0 0 none) (P.first self.now.key, []) n (w, [])) }
+        ensures { (result.1.block ≡ self.now.id) × (result.1.me.1 ≡ []) × M.then (step 2 0 0 0 none) (P.first self.now.key, []) result.0 result.1.me }
     {
         let found = unsafe { raw::load::<Brand>(&raw const (*self.at).word, SeqCst) };
         (
@@ -45,7 +45,7 @@ impl<S, V, K, P: BlockRule<S, V, K>, T, A: Allocator> Share<S, V, K, P, T, A> {
     }
 
     /// Cuts the view of `seat` in two, as `M` says, and makes a new seat of the second part. The slots stay with the first. It is no step of the machine.
-    pub fn split_seat<M: Split<V>>(&self, seat: &mut Seat<S, V>) -> Seat<S, V>
+    pub fn split_seat<M: Split<V>>(&self, seat: &mut Seat<S, W, V>) -> Seat<S, W, V>
         requires block { seat.old.block ≡ self.now.id }
         requires allowed { Splits (P.holds self.now.key) seat.old.id seat.old.me.0 (M.left seat.old.me.0) (M.right seat.old.me.0) }
         ensures { (seat.new.block ≡ seat.old.block) × (seat.new.id ≡ seat.old.id) × (seat.new.me ≡ (M.left seat.old.me.0, seat.old.me.1)) × (result.block ≡ seat.old.block) × (result.me ≡ (M.right seat.old.me.0, [])) }
@@ -56,52 +56,32 @@ impl<S, V, K, P: BlockRule<S, V, K>, T, A: Allocator> Share<S, V, K, P, T, A> {
     }
 
     /// Writes `new` into the word. Answers the word as it was.
-    pub fn swap<M: Play<S, V>>(&self, seat: &mut Seat<S, V>, new: u64) -> u64
+    pub fn swap<M: Play<Place<S, W>, V>>(&self, seat: &mut Seat<S, W, V>, new: u64) -> u64
         requires block { seat.old.block ≡ self.now.id }
-        requires allowed { Allows (P.holds self.now.key) 3 seat.old.id seat.old.me 0 (λ _. new) (M.then (step 3 0 new 0 none) seat.old.me) }
+        requires allowed { Allows (P.holds self.now.key) 2 seat.old.id seat.old.me 0 (λ _. new) (M.then (step 2 0 new 0 none) seat.old.me) }
         requires shares { Same (P.holds self.now.key) P.out seat.old.id seat.old.me.0 (λ _. new) }
-        ensures { (seat.new.block ≡ seat.old.block) × (seat.new.id ≡ seat.old.id) × M.then (step 3 0 new 0 none) seat.old.me result seat.new.me }
+        ensures { (seat.new.block ≡ seat.old.block) × (seat.new.id ≡ seat.old.id) × M.then (step 2 0 new 0 none) seat.old.me result seat.new.me }
     {
         unsafe { raw::swap::<Brand>(&raw const (*self.at).word, new, SeqCst) }
     }
 
-    /// Takes `k` from the word, modulo 2^64. Answers the word as it was.
-    pub fn fetch_sub<M: Play<S, V>>(&self, seat: &mut Seat<S, V>, k: u64) -> u64
-        requires block { seat.old.block ≡ self.now.id }
-        requires allowed { Allows (P.holds self.now.key) 3 seat.old.id seat.old.me 0 (λ n. (n + (2 ^ 64 - k)) % 2 ^ 64) (M.then (step 3 0 k 0 none) seat.old.me) }
-        requires shares { Same (P.holds self.now.key) P.out seat.old.id seat.old.me.0 (λ n. (n + (2 ^ 64 - k)) % 2 ^ 64) }
-        ensures { (seat.new.block ≡ seat.old.block) × (seat.new.id ≡ seat.old.id) × M.then (step 3 0 k 0 none) seat.old.me result seat.new.me }
-    {
-        unsafe { raw::fetch_sub::<Brand>(&raw const (*self.at).word, k, SeqCst) }
-    }
-
     /// Keeps the bits of `k` in the word. Answers the word as it was.
-    pub fn fetch_and<M: Play<S, V>>(&self, seat: &mut Seat<S, V>, k: u64) -> u64
+    pub fn fetch_and<M: Play<Place<S, W>, V>>(&self, seat: &mut Seat<S, W, V>, k: u64) -> u64
         requires block { seat.old.block ≡ self.now.id }
-        requires allowed { Allows (P.holds self.now.key) 3 seat.old.id seat.old.me 0 (λ n. bit_and n k) (M.then (step 3 0 k 0 none) seat.old.me) }
+        requires allowed { Allows (P.holds self.now.key) 2 seat.old.id seat.old.me 0 (λ n. bit_and n k) (M.then (step 2 0 k 0 none) seat.old.me) }
         requires shares { Same (P.holds self.now.key) P.out seat.old.id seat.old.me.0 (λ n. bit_and n k) }
-        ensures { (seat.new.block ≡ seat.old.block) × (seat.new.id ≡ seat.old.id) × M.then (step 3 0 k 0 none) seat.old.me result seat.new.me }
+        ensures { (seat.new.block ≡ seat.old.block) × (seat.new.id ≡ seat.old.id) × M.then (step 2 0 k 0 none) seat.old.me result seat.new.me }
     {
         unsafe { raw::fetch_and::<Brand>(&raw const (*self.at).word, k, SeqCst) }
     }
 
     /// Sets the bits of `k` in the word. Answers the word as it was.
-    pub fn fetch_or<M: Play<S, V>>(&self, seat: &mut Seat<S, V>, k: u64) -> u64
+    pub fn fetch_or<M: Play<Place<S, W>, V>>(&self, seat: &mut Seat<S, W, V>, k: u64) -> u64
         requires block { seat.old.block ≡ self.now.id }
-        requires allowed { Allows (P.holds self.now.key) 3 seat.old.id seat.old.me 0 (λ n. bit_or n k) (M.then (step 3 0 k 0 none) seat.old.me) }
+        requires allowed { Allows (P.holds self.now.key) 2 seat.old.id seat.old.me 0 (λ n. bit_or n k) (M.then (step 2 0 k 0 none) seat.old.me) }
         requires shares { Same (P.holds self.now.key) P.out seat.old.id seat.old.me.0 (λ n. bit_or n k) }
-        ensures { (seat.new.block ≡ seat.old.block) × (seat.new.id ≡ seat.old.id) × M.then (step 3 0 k 0 none) seat.old.me result seat.new.me }
+        ensures { (seat.new.block ≡ seat.old.block) × (seat.new.id ≡ seat.old.id) × M.then (step 2 0 k 0 none) seat.old.me result seat.new.me }
     {
         unsafe { raw::fetch_or::<Brand>(&raw const (*self.at).word, k, SeqCst) }
-    }
-
-    /// Writes `new` into the word if it was `old`. Answers the word as it was, so the exchange was made exactly if that is `old`.
-    pub fn compare_exchange<M: Play<S, V>>(&self, seat: &mut Seat<S, V>, old: u64, new: u64) -> u64
-        requires block { seat.old.block ≡ self.now.id }
-        requires allowed { Allows (P.holds self.now.key) 3 seat.old.id seat.old.me 0 (λ n. either (n == old) new n) (M.then (step 3 0 old new none) seat.old.me) }
-        requires shares { Same (P.holds self.now.key) P.out seat.old.id seat.old.me.0 (λ n. either (n == old) new n) }
-        ensures { (seat.new.block ≡ seat.old.block) × (seat.new.id ≡ seat.old.id) × M.then (step 3 0 old new none) seat.old.me result seat.new.me }
-    {
-        unsafe { exchange::<Brand>(&raw const (*self.at).word, old, new) }
     }
 }

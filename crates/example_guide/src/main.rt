@@ -124,7 +124,7 @@ impl<'x, R: Wait + Drop + Copy> Future<Waker<R, &'x Executor<R>>> for Delay {
             return Poll::Ready(self.0);
         }
         let kept = match waker.try_clone() {
-            Some(clone) if state.time.is_some() => state.kept.push(clone.with_around(())).is_ok(),
+            Ok(clone) if state.time.is_some() => state.kept.push(clone.with_around(())).is_ok(),
             _ => false,
         };
         drop(state);
@@ -139,12 +139,15 @@ fn main(rt: HostRuntime) -> io::Result<()> {
     let executor = &Executor::new(rt, rt.alloc());
     let mut soon = executor.spawn(1)?;
     let mut never = executor.spawn(3)?;
-    let ask = move || {
+    let answers = thread::scope(thread::scope_env(), &rt, move |scope| {
+        if scope.spawn(move || executor.run()).is_err() {
+            executor.set_time(None);
+            executor.run();
+        }
         executor.set_time(Some(2));
         let soon = block_on(rt, rt.alloc(), &mut soon);
         executor.set_time(None);
         (soon, block_on(rt, rt.alloc(), &mut never))
-    };
-    let (_, answers) = thread::join(&rt, move || executor.run(), ask);
+    });
     println!(rt; "{answers:?}")
 }

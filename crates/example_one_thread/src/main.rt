@@ -103,7 +103,7 @@ impl<R: Wait + Drop + Copy> Executor<R> {
         if let Some(message) = inbox.0.take() {
             return Poll::Ready(message);
         }
-        let Some(clone) = waker.try_clone() else {
+        let Ok(clone) = waker.try_clone() else {
             drop(inbox);
             waker.wake_by_ref();
             return Poll::Pending;
@@ -168,13 +168,17 @@ fn run_all<R: Wait + Drop + Copy>(executor: &Executor<R>) -> Option<(u64, u64)> 
     Some((answer, ended))
 }
 
-// Runs the tasks on this thread, while another one sends them a message.
+// Runs the tasks on this thread, while another one sends them a message. Where there is no other, this one sends it first.
 fn run_both<R: Wait + Threads + Drop + Copy + Send + Sync>(
     rt: R,
     executor: &Executor<R>,
 ) -> Option<(u64, u64)> {
-    let (_, answers) = thread::join(&rt, || executor.send(42), || run_all(executor));
-    answers
+    thread::scope(thread::scope_env(), &rt, |scope| {
+        if scope.spawn(move || executor.send(42)).is_err() {
+            executor.send(42);
+        }
+        run_all(executor)
+    })
 }
 
 // What the tasks have written, which is not in the log then.

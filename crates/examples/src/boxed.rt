@@ -68,7 +68,7 @@ impl<'x, R: Wait + Drop + Copy, T: Step> Future<StepWaker<'x, R, T>> for Tickete
         let answer = self.inner.step(&self.ticket);
         // Where a clone is refused nothing wakes the task, which stays pending.
         if answer == Poll::Pending
-            && let (Some(ticket), Some(clone)) = (self.ticket.try_clone(), waker.try_clone())
+            && let (Some(ticket), Ok(clone)) = (self.ticket.try_clone(), waker.try_clone())
         {
             let line = waker.around();
             let kept = (ticket, clone.with_around(()));

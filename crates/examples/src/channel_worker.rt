@@ -64,9 +64,11 @@ impl<R: Wait + Drop + Copy> Line<R> {
     fn work(&self) {
         for _ in self.rt.forever() {
             match self.receiver.recv(&self.rt) {
-                Ok(Some(queued)) => queued.with_around(self).run(),
+                Ok(Some(queued)) => {
+                    queued.with_around(self).run();
+                }
                 _ => return,
-            };
+            }
         }
     }
 
@@ -90,7 +92,21 @@ impl<R: Wait + Drop + Copy> Line<R> {
     }
 }
 
-/// The square of a number, by a task on another thread. `None` where there is no memory.
+// Asks, while another thread works. `None` where there is no such thread, too.
+fn ask_worker<R: Wait + Threads + Drop + Copy + Send + Sync>(
+    line: &Line<R>,
+    alloc: Global,
+    number: u64,
+) -> Option<u64> {
+    thread::scope(thread::scope_env(), &line.rt, |scope| {
+        if scope.spawn(move || line.work()).is_err() {
+            return None;
+        }
+        line.ask_once(alloc, number)
+    })
+}
+
+/// The square of a number, by a task on another thread. `None` where there is no memory, or no such thread.
 pub fn square_of<R: Wait + Threads + Drop + Copy + Send + Sync>(
     rt: R,
     alloc: Global,
@@ -102,6 +118,5 @@ pub fn square_of<R: Wait + Threads + Drop + Copy + Send + Sync>(
         sender,
         receiver,
     };
-    let (_, answer) = thread::join(&rt, || line.work(), || line.ask_once(alloc, number));
-    answer
+    ask_worker(&line, alloc, number)
 }

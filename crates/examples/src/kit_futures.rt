@@ -37,10 +37,13 @@ pub fn joined<R: Wait + RandomSource + AllocGlobal + Threads + Drop + Copy + Sen
     let (second, right) = bridged(rt, alloc, numbers[1])?;
     let run = move || {
         first.run();
-        second.run()
+        second.run();
     };
-    let wait = move || block_on(&rt, join(join(left, right), ready(7u64)));
-    let (_, answers) = thread::join(&rt, run, wait);
+    let answers = thread::scope(thread::scope_env(), &rt, |scope| {
+        // Where no thread can be started the Runnables are dropped, which cancels the tasks.
+        drop(scope.spawn(run));
+        block_on(&rt, join(join(left, right), ready(7u64)))
+    });
     let ((left, right), kit) = answers.ok()?;
     Some((left.ok()?, right.ok()?, kit))
 }

@@ -62,7 +62,7 @@ fn look<R: Wait + Drop + Copy>(waker: &AskWaker<'_, R>) -> Option<Option<u64>> {
     if let Slot::Filled(answer) = &*slot {
         return Some(*answer);
     }
-    let Some(clone) = waker.try_clone() else {
+    let Ok(clone) = waker.try_clone() else {
         drop(slot);
         waker.wake_by_ref();
         return None;
@@ -96,14 +96,29 @@ fn ask<R: Wait + Drop + Copy>(line: &Asking<R>, alloc: Global, future: Asks) -> 
     for _ in line.rt.forever() {
         match task.poll(&Nobody) {
             TaskPoll::Ready(Ok(answer)) => return answer,
-            TaskPoll::Pending => line.wait().run(),
+            TaskPoll::Pending => {
+                line.wait().run();
+            }
             _ => return None,
-        };
+        }
     }
     unreachable!()
 }
 
-/// The double of a number, by a task that asks a future of the kit. `None` where memory was refused.
+// Runs the task on this thread, and the future of the kit on another one. `None` where there is no such thread, too.
+fn ask_beside<R>(line: &Asking<R>, alloc: Global, future: Asks, asked: Receiver<u64>) -> Option<u64>
+where
+    R: Wait + RandomSource + AllocGlobal + Threads + Drop + Copy + Send + Sync,
+{
+    thread::scope(thread::scope_env(), &line.rt, |scope| {
+        if scope.spawn(move || double(line, asked)).is_err() {
+            return None;
+        }
+        ask(line, alloc, future)
+    })
+}
+
+/// The double of a number, by a task that asks a future of the kit. `None` where memory or a thread was refused.
 pub fn double_of<R>(rt: R, alloc: Global, number: u64) -> Option<u64>
 where
     R: Wait + RandomSource + AllocGlobal + Threads + Drop + Copy + Send + Sync,
@@ -111,10 +126,5 @@ where
     let (sender, asked) = oneshot::channel(alloc).ok()?;
     let question = Some(sender);
     let line = Line::new(rt, alloc, Mutex::new(Slot::Empty));
-    let (_, answer) = thread::join(
-        &rt,
-        || double(&line, asked),
-        || ask(&line, alloc, Asks { number, question }),
-    );
-    answer
+    ask_beside(&line, alloc, Asks { number, question }, asked)
 }

@@ -26,6 +26,11 @@ fn spawn_into<'x, R: Wait + Drop + Copy>(
     Some(runnable)
 }
 
+// Runs a task. In the closure of a thread the record of the run could not be dropped.
+fn run<R: Wait + Drop + Copy>(work: Work<'_, R>) {
+    work.run();
+}
+
 // The sum of what both members of the group answer.
 fn total<R: Wait + Drop + Copy>(group: &mut Sums<'_, R>) -> Option<u64> {
     let mut total = 0u64;
@@ -46,6 +51,6 @@ pub fn sum_in_two<R: Wait + Threads + Drop + Copy + Send + Sync>(
     let mut group: Sums<'_, R> = TaskGroup::new(rt, alloc, 2).ok()?;
     let first = spawn_into(&mut group, rt, alloc, left)?;
     let second = spawn_into(&mut group, rt, alloc, right)?;
-    thread::join(&rt, move || first.run(), move || second.run());
+    thread::join(&rt, move || run(first), move || run(second));
     total(&mut group)
 }

@@ -63,19 +63,21 @@ fn work_both<R: Wait + Clock + Threads + Drop + Copy + Send + Sync + 'static>(
     timers.close();
 }
 
-// Runs all threads to their end.
+// Runs all threads to their end: whether there was one that drives the timers.
 fn run<R: Wait + Clock + Threads + Drop + Copy + Send + Sync + 'static>(
     pool: &JobPool<R>,
     timers: &JobTimers<R>,
-) {
-    thread::join(
-        &pool.rt(),
-        || timers.run().is_ok(),
-        || work_both(pool, timers),
-    );
+) -> bool {
+    thread::scope(thread::scope_env(), &pool.rt(), |scope| {
+        if scope.spawn(move || timers.run().is_ok()).is_err() {
+            return false;
+        }
+        work_both(pool, timers);
+        true
+    })
 }
 
-/// How many requests were served, and how many were not in time. `None` where memory or the clock was refused.
+/// How many requests were served, and how many were not in time. `None` where memory, the clock or a thread for the timers was refused.
 pub fn served_and_late<R: Wait + Clock + Threads + Drop + Copy + Send + Sync + 'static>(
     rt: R,
     alloc: Global,
@@ -84,6 +86,8 @@ pub fn served_and_late<R: Wait + Clock + Threads + Drop + Copy + Send + Sync + '
     let tally = Arc::new(alloc, Tally::new(SERVERS as u64 + 1)).ok()?;
     let pool = JobPool::new(rt, alloc, 2).ok()?;
     spawn_all(&pool, &timers, &tally).ok()?;
-    run(&pool, &timers);
+    if !run(&pool, &timers) {
+        return None;
+    }
     Some(tally.counts())
 }

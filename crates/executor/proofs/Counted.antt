@@ -2,7 +2,7 @@
 use Rattle.std.proofs.Common.{arith, length-append, ◌≡◌, ℕ, zero, suc, ◌+◌, List, [], ◌∷◌, ◌++◌, length, drop, sym, refl, ap, ◌∙◌, subst}
 use mathlib.Core.Option.{some, some-injective, some-ne-none}
 use lib.ListN.{get_elem?}
-use Rattle.std.proofs.lemmas.List.{append_assoc}
+use Rattle.std.proofs.lemmas.List.{append_assoc, append-nil}
 use Rattle.std.proofs.lemmas.List.Elements.{All-append, All-cons, All-nil}
 use Rattle.executor.specs.Appends.{Appends}
 
@@ -33,6 +33,10 @@ drop-one (suc n) (x ∷ l) = let e : suc (n + 1) ≡ suc n + 1 = omega arith in 
 -- the front leaves what n that were dropped had left
 pub dropped-more : {A : Type 0} (n : ℕ) (old : List A) {now new : List A} → new ≡ drop 1 now → now ≡ drop n old → new ≡ drop (n + 1) old
 dropped-more n old is was = is ∙ (ap (drop 1) was ∙ drop-one n old)
+
+-- nothing at the end
+pub appends-none : {T : Type 0} {P : T → Type 0} (a : List T) → Appends P a a
+appends-none {T} {P} a = record { added = []; behind = sym (append-nil a); each = All-nil P }
 
 -- one item at the end
 pub appends-one : {T : Type 0} {P : T → Type 0} {a b : List T} (x : T) → b ≡ a ++ x ∷ [] → P x → Appends P a b

@@ -1,4 +1,4 @@
-use Rattle.std.specs.Prelude.{◌≡◌, Option, Some, IsSome, IfSome, IsNone}
+use Rattle.std.specs.Prelude.{◌≡◌, Option, Some, None, IsSome, IfSome, IsNone}
 use Rattle.task_core.specs.declared.traits.Poll.{Poll}
 use Rattle.task_core.specs.declared.traits.Poll.TheVariants.{Pending}
 
@@ -7,6 +7,12 @@ module _ {S : Type 0} where
   pub record IsOfTask (made : S → Type 0) (old new : Option S) : Type 0 where
     pub fresh : IsNone old → IfSome new made
     pub stays : IsSome old → new ≡ old
+
+module _ {E : Type 0} where
+  -- there is a record of a call, and this holds of it
+  abbrev pub Shows : (E → Type 0) → Option E → Type 0
+  Shows holds None = ⊥
+  Shows holds (Some ended) = holds ended
 
 module _ {F S T : Type 0} where
   -- a poll of the future inside by that shared waker, or none, and then the task was woken

@@ -1,5 +1,5 @@
 //! The awaiter of a pool, by which a worker waits for a Task, a task of the pool for another one, or a group for its members.
-ghost use Rattle.std.specs.Prelude.{⊤, ◌≡◌, false, IfSome};
+ghost use Rattle.std.specs.Prelude.{⊤, ◌≡◌, false, IfOk, IfSome};
 ghost use Rattle.std.specs.Arc.{arc_value};
 ghost use Rattle.executor.specs.Wakes.{IsForWorker, IsForKept, IsForReader, IsSameWake};
 
@@ -65,6 +65,16 @@ impl<R: Wait + Drop + Copy> BellAwaiter<R> {
         let wakes = Wakes::Ring(rings);
         Some(BellAwaiter { wakes })
     }
+
+    // One more that wakes the same. `None` where that has as many owners as can be counted.
+    fn second(&self) -> Option<BellAwaiter<R>>
+        ensures { IfSome result (λ other. IsSameWake self.now.wakes other.wakes) }
+    {
+        match &self.wakes {
+            Wakes::Ring(rings) => BellAwaiter::of_rings(rings.try_clone()?),
+            Wakes::Reader(mailbox, number) => BellAwaiter::of_mailbox(mailbox, *number),
+        }
+    }
 }
 
 impl<R: Wait + Drop + Copy> Posts<R> for BellAwaiter<R> {
@@ -83,11 +93,13 @@ impl<R: Wait + Drop + Copy> Posts<R> for BellAwaiter<R> {
 }
 
 impl<R: Wait + Drop + Copy> Wake for BellAwaiter<R> {
-    ghost woken = { λ _. ⊤ };
+    type Record = ();
 
-    ghost woken_by_ref = { λ _. ⊤ };
+    ghost woken = { λ _ _. ⊤ };
 
-    ghost cloned = { λ awaiter clone. IfSome clone (λ other. IsSameWake awaiter.wakes other.wakes) };
+    ghost woken_by_ref = { λ _ _. ⊤ };
+
+    ghost cloned = { λ awaiter clone. IfOk clone (λ other. IsSameWake awaiter.wakes other.wakes) };
 
     ghost compared = { λ _ _ answer. answer ≡ false };
 
@@ -104,11 +116,8 @@ impl<R: Wait + Drop + Copy> Wake for BellAwaiter<R> {
         }
     }
 
-    fn try_clone(&self) -> Option<BellAwaiter<R>> {
-        match &self.wakes {
-            Wakes::Ring(rings) => BellAwaiter::of_rings(rings.try_clone()?),
-            Wakes::Reader(mailbox, number) => BellAwaiter::of_mailbox(mailbox, *number),
-        }
+    fn try_clone(&self) -> Result<BellAwaiter<R>, ()> {
+        self.second().ok_or(())
     }
 
     // Two shares of the bells cannot be told to be of one pool: a wake too many has a worker look once more.

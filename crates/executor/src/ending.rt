@@ -41,7 +41,7 @@ impl<R: Wait + Drop + Copy, F: Yields, A: Wake, B: Allocator, M: Drop> Pool<R, F
 
     // Whether a worker ends that has found nothing: no task is taken any more, and nothing is queued or posted.
     pub(crate) fn is_finished(&self) -> bool {
-        self.stage.is_finishing() && !self.crew.shows_any() && !self.mail.is_due()
+        self.stage.is_finishing() && self.crew.shows_none().is_some() && !self.mail.is_due()
     }
 
     // Drops the Runnables of a queue, which cancels their tasks: how many there were.

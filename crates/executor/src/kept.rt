@@ -45,7 +45,7 @@ pub fn keep_new_waker<'x, R: Wait + Drop + Copy, F: Yields, A: Wake, B: Allocato
 ) -> Option<Key<R>> {
     let place = waker.around();
     let (pool, worker) = place;
-    let clone = waker.try_clone()?;
+    let clone = waker.try_clone().ok()?;
     let kept = pool.wakers.reserve_with(pool.rt, worker, clone.stored());
     let key = match kept {
         Ok(key) => key,
@@ -70,7 +70,7 @@ pub fn keep_waker<'x, R: Wait + Drop + Copy, F: Yields, A: Wake, B: Allocator + 
 ) -> bool {
     let place = waker.around();
     let pool = place.0;
-    let Some(clone) = waker.try_clone() else {
+    let Ok(clone) = waker.try_clone() else {
         return false;
     };
     match pool.wakers.put(&pool.rt, key, clone.stored()) {

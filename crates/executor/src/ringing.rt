@@ -51,7 +51,7 @@ impl<R: Wait + Drop + Copy> Rings<R> {
     // A number that waits already was posted by a thread that interrupts a worker after it.
     pub(crate) fn ring(&self) {
         match self {
-            Rings::Worker(bells, worker) => bells.interrupt_worker(*worker),
+            Rings::Worker(bells, worker) => drop(bells.interrupt_worker(*worker)),
             Rings::Kept(bells, mail, number) => {
                 if mail.post(*number) {
                     bells.interrupt();

@@ -1,5 +1,5 @@
 -- What a poll of an Awaits does, and answers by it.
-use Rattle.std.specs.Prelude.{◌≡◌, false, Option, Some, None, Result, Ok, Err, IfSome, ⊤}
+use Rattle.std.specs.Prelude.{◌≡◌, false, Option, Some, None, Result, Ok, Err, IfOk, ⊤}
 use Rattle.std.specs.Arc.{arc_value}
 use Rattle.futures.specs.declared.task.Poll.{Poll}
 use Rattle.futures.specs.declared.task.Poll.TheVariants.{Ready, Pending}
@@ -12,8 +12,8 @@ use Rattle.executor_parts.specs.declared.kit.awaits.AwaitError.{AwaitError}
 use Rattle.executor_parts.specs.declared.kit.awaits.AwaitError.TheVariants.{Closed, Refused}
 
 -- a clone of an awaiter has its slot
-abbrev pub SharesSlot : {B : Type 0} → KitAwaiter B → Option (KitAwaiter B) → Type 0
-SharesSlot awaiter clone = IfSome clone (λ other. arc_value other.slot ≡ arc_value awaiter.slot)
+abbrev pub SharesSlot : {B E : Type 0} → KitAwaiter B → Result (KitAwaiter B) E → Type 0
+SharesSlot awaiter clone = IfOk clone (λ other. arc_value other.slot ≡ arc_value awaiter.slot)
 
 -- the answer to the kit, by that of the Task, which is None where it is closed
 abbrev pub answered : {U : Type 0} → TaskPoll (Option U) → Poll (Result U AwaitError)
@@ -25,5 +25,5 @@ answered Waits = Pending
 -- the Task is polled once with this awaiter, its party is p before and q after, and the kit is told the answer
 abbrev pub PollsTask : {F T U B : Type 0} → KitAwaiter B → (p q : Party F T (KitAwaiter B)) → Poll (Result U AwaitError) → Type 0
 PollsTask {U = U} awaiter p q answer =
-    (polled : TaskPoll (Option U)) × PollsOnce SharesSlot (λ _. ⊤) (λ _. ⊤) (λ _ _ same. same ≡ false) awaiter p q polled
+    (polled : TaskPoll (Option U)) × PollsOnce {K = ⊤} SharesSlot (λ _ _. ⊤) (λ _ _. ⊤) (λ _ _ same. same ≡ false) awaiter p q polled
     × (answer ≡ answered polled)

@@ -1,5 +1,5 @@
 //! The mailbox that threads share, and the awaiter that posts to it.
-ghost use Rattle.std.specs.Prelude.{⊤, ◌≡◌, false, IfSome};
+ghost use Rattle.std.specs.Prelude.{⊤, ◌≡◌, false, IfOk, IfSome};
 ghost use Rattle.std.specs.Arc.{arc_value};
 
 use crate::deadline::left_until;
@@ -131,11 +131,13 @@ impl<R: Wait + Drop + Copy> Awaiter<R> {
 }
 
 impl<R: Wait + Drop + Copy> Wake for Awaiter<R> {
-    ghost woken = { λ _. ⊤ };
+    type Record = ();
 
-    ghost woken_by_ref = { λ _. ⊤ };
+    ghost woken = { λ _ _. ⊤ };
 
-    ghost cloned = { λ awaiter clone. IfSome clone (λ other. (arc_value other.mailbox ≡ arc_value awaiter.mailbox) × (other.number ≡ awaiter.number)) };
+    ghost woken_by_ref = { λ _ _. ⊤ };
+
+    ghost cloned = { λ awaiter clone. IfOk clone (λ other. (arc_value other.mailbox ≡ arc_value awaiter.mailbox) × (other.number ≡ awaiter.number)) };
 
     ghost compared = { λ _ _ answer. answer ≡ false };
 
@@ -147,8 +149,8 @@ impl<R: Wait + Drop + Copy> Wake for Awaiter<R> {
         self.mailbox.post(self.number);
     }
 
-    fn try_clone(&self) -> Option<Awaiter<R>> {
-        Awaiter::new(&self.mailbox, self.number)
+    fn try_clone(&self) -> Result<Awaiter<R>, ()> {
+        Awaiter::new(&self.mailbox, self.number).ok_or(())
     }
 
     // Two shares of a mailbox cannot be told to be of one: a wake too many posts a number once more.

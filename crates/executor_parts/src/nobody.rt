@@ -8,9 +8,11 @@ use async_task::Wake;
 pub struct Nobody;
 
 impl Wake for Nobody {
-    ghost woken = { λ _. ⊤ };
+    type Record = ();
 
-    ghost woken_by_ref = { λ _. ⊤ };
+    ghost woken = { λ _ _. ⊤ };
+
+    ghost woken_by_ref = { λ _ _. ⊤ };
 
     ghost cloned = { λ _ _. ⊤ };
 
@@ -20,8 +22,8 @@ impl Wake for Nobody {
 
     fn wake_by_ref(&self) {}
 
-    fn try_clone(&self) -> Option<Nobody> {
-        Some(Nobody)
+    fn try_clone(&self) -> Result<Nobody, ()> {
+        Ok(Nobody)
     }
 
     fn will_wake(&self, _other: &Nobody) -> bool {

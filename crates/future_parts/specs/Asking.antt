@@ -2,8 +2,8 @@ use Rattle.std.specs.Prelude.{◌≡◌, ◌≢◌, ◌^◌, ◌+◌, ◌<◌, �
 use Rattle.std.specs.List.{remove}
 use Rattle.std.specs.Option.{option_to_list}
 use Rattle.future_parts.specs.declared.permits.Permits.{Permits}
-use Rattle.future_parts.specs.declared.permits.Answer.{Answer}
-use Rattle.future_parts.specs.declared.permits.Answer.TheVariants.{Taken, Closed, Waits, Refused}
+use Rattle.future_parts.specs.declared.asked.Answer.{Answer}
+use Rattle.future_parts.specs.declared.asked.Answer.TheVariants.{Taken, Closed, Waits, Refused}
 use Rattle.future_parts.specs.declared.line.Waiter.{Waiter}
 use Rattle.future_parts.specs.declared.due.Step.{Step}
 use Rattle.future_parts.specs.declared.due.Step.TheVariants.{Next, Done}

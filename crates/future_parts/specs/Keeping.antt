@@ -1,7 +1,7 @@
 use Rattle.std.specs.Prelude.{◌≡◌, Option, Some, None, IsSome}
 use Rattle.future_parts.specs.declared.kept_value.KeptValue.{KeptValue}
-use Rattle.future_parts.specs.declared.permits.Answer.{Answer}
-use Rattle.future_parts.specs.declared.permits.Answer.TheVariants.{Taken, Closed, Waits, Refused}
+use Rattle.future_parts.specs.declared.asked.Answer.{Answer}
+use Rattle.future_parts.specs.declared.asked.Answer.TheVariants.{Taken, Closed, Waits, Refused}
 use Rattle.future_parts.specs.Asking.{Added}
 
 module _ {T : Type 0} where

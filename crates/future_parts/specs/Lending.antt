@@ -1,7 +1,7 @@
 use Rattle.std.specs.Prelude.{◌≡◌, ◌+◌, ℕ, Option}
 use Rattle.future_parts.specs.declared.lent.Lent.{Lent}
-use Rattle.future_parts.specs.declared.permits.Answer.{Answer}
-use Rattle.future_parts.specs.declared.permits.Answer.TheVariants.{Taken, Closed, Waits, Refused}
+use Rattle.future_parts.specs.declared.asked.Answer.{Answer}
+use Rattle.future_parts.specs.declared.asked.Answer.TheVariants.{Taken, Closed, Waits, Refused}
 use Rattle.future_parts.specs.Asking.{Added}
 
 -- how many permits an answer lends

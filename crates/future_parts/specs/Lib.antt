@@ -9,5 +9,6 @@ pub mod Messaging
 pub mod Notifying
 pub mod Polls
 pub mod Races
+pub mod Registering
 pub mod Sending
 pub mod Singles

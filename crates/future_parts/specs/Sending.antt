@@ -1,7 +1,7 @@
 use Rattle.std.specs.Prelude.{◌≡◌, ◌++◌, ◌∷◌, [], ℕ, Option, MatchBool}
 use Rattle.future_parts.specs.declared.messages.Messages.{Messages}
-use Rattle.future_parts.specs.declared.permits.Answer.{Answer}
-use Rattle.future_parts.specs.declared.permits.Answer.TheVariants.{Closed}
+use Rattle.future_parts.specs.declared.asked.Answer.{Answer}
+use Rattle.future_parts.specs.declared.asked.Answer.TheVariants.{Closed}
 use Rattle.future_parts.specs.Lines.{waiting}
 use Rattle.future_parts.specs.Asking.{Added, Same, Polled}
 

@@ -1,19 +1,22 @@
 //! A mutex that tasks wait for, and may hold between their polls.
-ghost use Rattle.std.specs.Prelude.{◌≡◌, ⊤, None, true, is_none, IfErr};
+ghost use Rattle.std.specs.Prelude.{◌≡◌, None, Some, true, is_none, IfErr, IfOk, IfSome};
+ghost use Rattle.std.specs.Arc.{arc_value};
+ghost use Rattle.future_parts.specs.Registering.{made_with, AwaitPolled};
 
+use crate::asked::own_waker;
 use crate::due::Lease;
 use crate::kept_value::KeptValue;
 use crate::line::Place;
-use crate::permits::Answer;
+use crate::shared::Shared;
 use std::alloc::{AllocError, Global};
-use std::sync::{Arc, Mutex, Wait};
+use std::sync::{Arc, Wait};
 use task_core::{Future, Poll, Wake, Yields};
 
 /// A handle to a mutex. All clones share its value. `W` is the waker of the futures that wait.
 #[derive(Drop)]
 pub struct AsyncMutex<R: Wait + Drop + Copy, T: Drop, W: Wake> {
     rt: R,
-    state: Arc<Mutex<KeptValue<T, W>>>,
+    state: Arc<Shared<KeptValue<T, W>>>,
 }
 
 impl<R: Wait + Drop + Copy, T: Drop, W: Wake> AsyncMutex<R, T, W> {
@@ -25,22 +28,28 @@ impl<R: Wait + Drop + Copy, T: Drop, W: Wake> AsyncMutex<R, T, W> {
         alloc: Global,
         value: T,
         room: usize,
-    ) -> Result<AsyncMutex<R, T, W>, AllocError> {
-        let state = Arc::new(alloc, Mutex::new(KeptValue::new(alloc, value, room)?))?;
+    ) -> Result<AsyncMutex<R, T, W>, AllocError>
+        ensures value { IfOk result (λ made. (made_with (arc_value made.state)).value ≡ Some value) }
+        ensures room { IfOk result (λ made. (made_with (arc_value made.state)).permits.line.room ≡ room) }
+    {
+        let state = Arc::new(alloc, Shared::new(KeptValue::new(alloc, value, room)?))?;
         Ok(AsyncMutex { rt, state })
     }
 
     /// A second handle to the same mutex. It asks for no memory. `None` says that there are as many as can be counted.
-    pub fn try_clone(&self) -> Option<AsyncMutex<R, T, W>> {
+    pub fn try_clone(&self) -> Option<AsyncMutex<R, T, W>>
+        ensures { IfSome result (λ other. arc_value other.state ≡ arc_value self.now.state) }
+    {
         let state = Arc::try_clone(&self.state).ok()?;
         Some(AsyncMutex { rt: self.rt, state })
     }
 
     /// The guard, where nobody holds the mutex or waits for it. An error hands the handle back.
     pub fn try_lock(self) -> Result<Guard<R, T, W>, AsyncMutex<R, T, W>>
-        ensures { IfErr result (λ back. back ≡ self) }
+        ensures guard { IfOk result (λ guard. guard.mutex ≡ self) }
+        ensures back { IfErr result (λ back. back ≡ self) }
     {
-        let taken = self.state.lock(&self.rt).try_take();
+        let taken = self.state.unlocked().lock(&self.rt).try_take();
         match taken {
             Some((value, lease)) => Ok(Guard {
                 mutex: self,
@@ -52,7 +61,9 @@ impl<R: Wait + Drop + Copy, T: Drop, W: Wake> AsyncMutex<R, T, W> {
     }
 
     /// A future that waits for the guard. Who waits longest has it next.
-    pub fn lock(self) -> Lock<R, T, W> {
+    pub fn lock(self) -> Lock<R, T, W>
+        ensures { (result.state ≡ Some self.state) × (result.place.number ≡ None) }
+    {
         Lock {
             rt: self.rt,
             state: Some(self.state),
@@ -91,9 +102,10 @@ impl<R: Wait + Drop + Copy, T: Drop, W: Wake> Drop for Guard<R, T, W> {
             value,
             lease,
         } = self;
-        let put = mutex.state.lock(&mutex.rt).put(value, lease);
+        let mut unlocked = mutex.state.unlocked();
+        let put = unlocked.lock(&mutex.rt).put(value, lease);
         match put {
-            Ok(due) => due.wake(),
+            Ok(due) => due.wake(&unlocked),
             Err(value) => drop(value),
         }
     }
@@ -103,7 +115,7 @@ impl<R: Wait + Drop + Copy, T: Drop, W: Wake> Drop for Guard<R, T, W> {
 pub struct Lock<R: Wait + Drop + Copy, T: Drop, W: Wake> {
     rt: R,
     // None once it has answered.
-    state: Option<Arc<Mutex<KeptValue<T, W>>>>,
+    state: Option<Arc<Shared<KeptValue<T, W>>>>,
     place: Place,
     ghost ended: { is_none state ≡ true → place.number ≡ None },
 }
@@ -113,9 +125,9 @@ impl<R: Wait + Drop + Copy, T: Drop, W: Wake> Drop for Lock<R, T, W> {
         let Lock { rt, state, place } = self;
         match state {
             Some(state) => {
-                let (due, spare) = state.lock(&rt).leave(place);
-                due.wake();
-                drop(spare);
+                let mut unlocked = state.unlocked();
+                let due = unlocked.lock(&rt).leave(place);
+                due.wake(&unlocked);
             }
             None => {
                 place.end();
@@ -129,17 +141,16 @@ impl<R: Wait + Drop + Copy, T: Drop, W: Wake> Yields for Lock<R, T, W> {
 }
 
 impl<R: Wait + Drop + Copy, T: Drop, W: Wake> Future<W> for Lock<R, T, W> {
-    ghost polled = { λ _ _ _ _. ⊤ };
+    ghost polled = { λ old waker answer new. AwaitPolled W.cloned W.woken_by_ref (λ guard. guard.mutex.state) old.state waker answer new.state };
 
     fn poll(&mut self, waker: &W) -> Poll<Guard<R, T, W>> {
         let Some(state) = &self.state else {
             return Poll::Pending;
         };
-        let own = waker.try_clone();
-        let (asked, taken) = state.lock(&self.rt).poll_take(&mut self.place, own);
-        if asked.answer == Answer::Refused {
-            waker.wake_by_ref();
-        }
+        let own = own_waker(waker);
+        let mut unlocked = state.unlocked();
+        let (asked, taken) = unlocked.lock(&self.rt).poll_take(&mut self.place, own);
+        asked.settle(waker, &unlocked);
         let Some((value, lease)) = taken else {
             return Poll::Pending;
         };

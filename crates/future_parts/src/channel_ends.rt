@@ -1,14 +1,17 @@
 //! A channel of bounded length: any number of senders, and of receivers.
-ghost use Rattle.std.specs.Prelude.{◌≡◌, ⊤, None, IfErr};
-ghost use Rattle.future_parts.specs.Messaging.{HandsBack, unsent};
+ghost use Rattle.std.specs.Prelude.{◌≡◌, None, Some, IfErr, IfOk, IfSome, max};
+ghost use Rattle.std.specs.Arc.{arc_value};
+ghost use Rattle.future_parts.specs.Messaging.{unsent};
+ghost use Rattle.future_parts.specs.Registering.{made_with, IsRegistered, SendPolled};
 
+use crate::asked::{Answer, own_waker};
 use crate::due::{ReceiverEnd, SenderEnd, Step, Sweep, first_ends};
 use crate::line::Place;
 use crate::messages::{Messages, Received, Sent, TryReceiveError, TrySendError};
-use crate::permits::Answer;
+use crate::shared::Shared;
 use std::alloc::{AllocError, Global};
 use std::mem;
-use std::sync::{Arc, Mutex, Wait};
+use std::sync::{Arc, Wait};
 use task_core::{Future, Poll, Wake, Yields};
 
 /// The two ends of a channel with room for `bound` messages, which is at least 1. All memory for messages is taken here, and for so many waiters on each side as `waiters` says: further ones ask for it.
@@ -19,10 +22,14 @@ pub fn channel<R: Wait + Drop + Copy, T: Drop, W: Wake>(
     alloc: Global,
     bound: usize,
     waiters: usize,
-) -> Result<(Sender<R, T, W>, Receiver<R, T, W>), AllocError> {
+) -> Result<(Sender<R, T, W>, Receiver<R, T, W>), AllocError>
+    ensures bound { IfOk result (λ ends. (made_with (arc_value ends.0.state)).bound ≡ max bound 1) }
+    ensures room { IfOk result (λ ends. ((made_with (arc_value ends.0.state)).here.line.room ≡ waiters) × ((made_with (arc_value ends.0.state)).room.line.room ≡ waiters)) }
+    ensures one { IfOk result (λ ends. arc_value ends.1.state ≡ arc_value ends.0.state) }
+{
     let state = Arc::new(
         alloc,
-        Mutex::new(Messages::new(alloc, bound.max(1), waiters)?),
+        Shared::new(Messages::new(alloc, bound.max(1), waiters)?),
     )?;
     let other = Arc::try_clone(&state)?;
     let (sending, receiving) = first_ends();
@@ -44,16 +51,18 @@ pub fn channel<R: Wait + Drop + Copy, T: Drop, W: Wake>(
 /// Sends messages. It waits for room for one at a time. Where the last sender is gone, the receivers are answered what is left, and then `None`.
 pub struct Sender<R: Wait + Drop + Copy, T: Drop, W: Wake> {
     rt: R,
-    state: Arc<Mutex<Messages<T, W>>>,
+    state: Arc<Shared<Messages<T, W>>>,
     place: Place,
     end: SenderEnd,
 }
 
 impl<R: Wait + Drop + Copy, T: Drop, W: Wake> Sender<R, T, W> {
     /// One more sender. It asks for no memory. `None` says that there are as many as can be counted.
-    pub fn try_clone(&self) -> Option<Sender<R, T, W>> {
+    pub fn try_clone(&self) -> Option<Sender<R, T, W>>
+        ensures { IfSome result (λ other. arc_value other.state ≡ arc_value self.now.state) }
+    {
         let state = Arc::try_clone(&self.state).ok()?;
-        let added = state.lock(&self.rt).add_sender();
+        let added = state.unlocked().lock(&self.rt).add_sender();
         let end = added?;
         Some(Sender {
             rt: self.rt,
@@ -67,8 +76,9 @@ impl<R: Wait + Drop + Copy, T: Drop, W: Wake> Sender<R, T, W> {
     pub fn try_send(&self, message: T) -> Result<(), TrySendError<T>>
         ensures { IfErr result (λ error. unsent error ≡ message) }
     {
-        let due = self.state.lock(&self.rt).try_send(message)?;
-        due.wake();
+        let mut unlocked = self.state.unlocked();
+        let due = unlocked.lock(&self.rt).try_send(message)?;
+        due.wake(&unlocked);
         Ok(())
     }
 
@@ -76,23 +86,18 @@ impl<R: Wait + Drop + Copy, T: Drop, W: Wake> Sender<R, T, W> {
     ///
     /// `Ready(Ok(()))` says that it was sent, `Ready(Err(_))` hands it back, since all receivers are gone. Where it is pending the message stays in `message`, and this waker is woken once a further poll can help. Where there is no message it is pending and waits for nothing.
     pub fn poll_send(&mut self, message: &mut Option<T>, waker: &W) -> Poll<Result<(), T>>
-        ensures { HandsBack message.old result message.new }
+        ensures { SendPolled W.cloned W.woken_by_ref message.old waker.now result message.new }
     {
         let Some(own_message) = message.take() else {
             return Poll::Pending;
         };
-        let own = waker.try_clone();
-        let Sent {
-            answer,
-            back,
-            due,
-            spare,
-        } = self
-            .state
+        let own = own_waker(waker);
+        let mut unlocked = self.state.unlocked();
+        let Sent { asked, back, due } = unlocked
             .lock(&self.rt)
             .poll_send(&mut self.place, own_message, own);
-        due.wake();
-        drop(spare);
+        due.wake(&unlocked);
+        let answer = asked.settle(waker, &unlocked);
         let Some(back) = back else {
             return Poll::Ready(Ok(()));
         };
@@ -100,9 +105,6 @@ impl<R: Wait + Drop + Copy, T: Drop, W: Wake> Sender<R, T, W> {
             return Poll::Ready(Err(back));
         }
         *message = Some(back);
-        if answer == Answer::Refused {
-            waker.wake_by_ref();
-        }
         Poll::Pending
     }
 
@@ -111,13 +113,15 @@ impl<R: Wait + Drop + Copy, T: Drop, W: Wake> Sender<R, T, W> {
         ensures { self.new.place.number ≡ None }
     {
         let place = mem::replace(&mut self.place, Place::outside());
-        let (due, spare) = self.state.lock(&self.rt).leave_room(place);
-        due.wake();
-        drop(spare);
+        let mut unlocked = self.state.unlocked();
+        let due = unlocked.lock(&self.rt).leave_room(place);
+        due.wake(&unlocked);
     }
 
     /// A future that sends a message once there is room. Its output is an error with the message, where all receivers are gone. Where it is dropped half way the message is dropped with it.
-    pub fn send(&mut self, message: T) -> Sending<'_, R, T, W> {
+    pub fn send(&mut self, message: T) -> Sending<'_, R, T, W>
+        ensures { (result.sender.now ≡ self.old) × (result.message ≡ Some message) }
+    {
         Sending {
             sender: self,
             message: Some(message),
@@ -126,13 +130,14 @@ impl<R: Wait + Drop + Copy, T: Drop, W: Wake> Sender<R, T, W> {
 }
 
 // Wakes the receivers that wait, once the last sender is gone.
-fn wake_receivers<R: Wait, T: Drop, W: Wake>(rt: &R, state: &Mutex<Messages<T, W>>, begun: Sweep) {
+fn wake_receivers<R: Wait, T: Drop, W: Wake>(rt: &R, state: &Shared<Messages<T, W>>, begun: Sweep) {
+    let mut unlocked = state.unlocked();
     let mut sweep = begun;
     for _ in rt.forever() {
-        let step = state.lock(rt).sweep_here(sweep);
+        let step = unlocked.lock(rt).sweep_here(sweep);
         match step {
             Step::Next(due, rest) => {
-                due.wake();
+                due.wake(&unlocked);
                 sweep = rest;
             }
             Step::Done => return,
@@ -151,7 +156,7 @@ impl<R: Wait + Drop + Copy, T: Drop, W: Wake> Drop for Sender<R, T, W> {
             end,
         } = self;
         place.end();
-        let last = state.lock(&rt).sender_gone(end);
+        let last = state.unlocked().lock(&rt).sender_gone(end);
         if let Some(sweep) = last {
             wake_receivers(&rt, &state, sweep);
         }
@@ -177,7 +182,7 @@ impl<R: Wait + Drop + Copy, T: Drop, W: Wake> Yields for Sending<'_, R, T, W> {
 }
 
 impl<R: Wait + Drop + Copy, T: Drop, W: Wake> Future<W> for Sending<'_, R, T, W> {
-    ghost polled = { λ old _ answer new. HandsBack old.message answer new.message };
+    ghost polled = { λ old waker answer new. SendPolled W.cloned W.woken_by_ref old.message waker answer new.message };
 
     fn poll(&mut self, waker: &W) -> Poll<Result<(), T>> {
         self.sender.poll_send(&mut self.message, waker)
@@ -187,16 +192,18 @@ impl<R: Wait + Drop + Copy, T: Drop, W: Wake> Future<W> for Sending<'_, R, T, W>
 /// Receives messages, in the order in which they were sent. It waits for one at a time. Where the last receiver is gone, the messages that are left are dropped, and later sends are handed back.
 pub struct Receiver<R: Wait + Drop + Copy, T: Drop, W: Wake> {
     rt: R,
-    state: Arc<Mutex<Messages<T, W>>>,
+    state: Arc<Shared<Messages<T, W>>>,
     place: Place,
     end: ReceiverEnd,
 }
 
 impl<R: Wait + Drop + Copy, T: Drop, W: Wake> Receiver<R, T, W> {
     /// One more receiver: each message goes to one of them. It asks for no memory. `None` says that there are as many as can be counted.
-    pub fn try_clone(&self) -> Option<Receiver<R, T, W>> {
+    pub fn try_clone(&self) -> Option<Receiver<R, T, W>>
+        ensures { IfSome result (λ other. arc_value other.state ≡ arc_value self.now.state) }
+    {
         let state = Arc::try_clone(&self.state).ok()?;
-        let added = state.lock(&self.rt).add_receiver();
+        let added = state.unlocked().lock(&self.rt).add_receiver();
         let end = added?;
         Some(Receiver {
             rt: self.rt,
@@ -208,31 +215,29 @@ impl<R: Wait + Drop + Copy, T: Drop, W: Wake> Receiver<R, T, W> {
 
     /// Receives a message at once. An error says that none is here, or others wait for it, or none will come.
     pub fn try_receive(&self) -> Result<T, TryReceiveError> {
-        let (message, due) = self.state.lock(&self.rt).try_receive()?;
-        due.wake();
+        let mut unlocked = self.state.unlocked();
+        let (message, due) = unlocked.lock(&self.rt).try_receive()?;
+        due.wake(&unlocked);
         Ok(message)
     }
 
     /// Receives a message once there is one: who waits longest has it next. A future that has the receiver calls this in its polls.
     ///
     /// `Ready(None)` says that none is left, and all senders are gone. Where it is pending, this waker is woken once a further poll can help.
-    pub fn poll_receive(&mut self, waker: &W) -> Poll<Option<T>> {
-        let own = waker.try_clone();
+    pub fn poll_receive(&mut self, waker: &W) -> Poll<Option<T>>
+        ensures { IsRegistered W.cloned W.woken_by_ref waker.now result }
+    {
+        let own = own_waker(waker);
+        let mut unlocked = self.state.unlocked();
         let Received {
-            answer,
+            asked,
             message,
             due,
-            spare,
-        } = self.state.lock(&self.rt).poll_receive(&mut self.place, own);
-        due.wake();
-        drop(spare);
-        match answer {
+        } = unlocked.lock(&self.rt).poll_receive(&mut self.place, own);
+        due.wake(&unlocked);
+        match asked.settle(waker, &unlocked) {
             Answer::Taken | Answer::Closed => Poll::Ready(message),
-            Answer::Waits => Poll::Pending,
-            Answer::Refused => {
-                waker.wake_by_ref();
-                Poll::Pending
-            }
+            Answer::Waits | Answer::Refused => Poll::Pending,
         }
     }
 
@@ -241,25 +246,28 @@ impl<R: Wait + Drop + Copy, T: Drop, W: Wake> Receiver<R, T, W> {
         ensures { self.new.place.number ≡ None }
     {
         let place = mem::replace(&mut self.place, Place::outside());
-        let (due, spare) = self.state.lock(&self.rt).leave_here(place);
-        due.wake();
-        drop(spare);
+        let mut unlocked = self.state.unlocked();
+        let due = unlocked.lock(&self.rt).leave_here(place);
+        due.wake(&unlocked);
     }
 
     /// A future that receives a message. Its output is `None` where none is left, and all senders are gone. Where it is dropped half way no message is lost.
-    pub fn receive(&mut self) -> Receiving<'_, R, T, W> {
+    pub fn receive(&mut self) -> Receiving<'_, R, T, W>
+        ensures { result.receiver.now ≡ self.old }
+    {
         Receiving { receiver: self }
     }
 }
 
 // Wakes the senders that wait, once the last receiver is gone.
-fn wake_senders<R: Wait, T: Drop, W: Wake>(rt: &R, state: &Mutex<Messages<T, W>>, begun: Sweep) {
+fn wake_senders<R: Wait, T: Drop, W: Wake>(rt: &R, state: &Shared<Messages<T, W>>, begun: Sweep) {
+    let mut unlocked = state.unlocked();
     let mut sweep = begun;
     for _ in rt.forever() {
-        let step = state.lock(rt).sweep_room(sweep);
+        let step = unlocked.lock(rt).sweep_room(sweep);
         match step {
             Step::Next(due, rest) => {
-                due.wake();
+                due.wake(&unlocked);
                 sweep = rest;
             }
             Step::Done => return,
@@ -269,12 +277,13 @@ fn wake_senders<R: Wait, T: Drop, W: Wake>(rt: &R, state: &Mutex<Messages<T, W>>
 }
 
 // Drops the messages that are left once the last receiver is gone, one by one, without the lock.
-fn drop_messages<R: Wait, T: Drop, W: Wake>(rt: &R, state: &Mutex<Messages<T, W>>) {
+fn drop_messages<R: Wait, T: Drop, W: Wake>(rt: &R, state: &Shared<Messages<T, W>>) {
+    let mut unlocked = state.unlocked();
     for _ in rt.forever() {
-        let received = state.lock(rt).try_receive();
+        let received = unlocked.lock(rt).try_receive();
         match received {
             Ok((message, due)) => {
-                due.wake();
+                due.wake(&unlocked);
                 drop(message);
             }
             Err(_) => return,
@@ -293,7 +302,7 @@ impl<R: Wait + Drop + Copy, T: Drop, W: Wake> Drop for Receiver<R, T, W> {
             end,
         } = self;
         place.end();
-        let last = state.lock(&rt).receiver_gone(end);
+        let last = state.unlocked().lock(&rt).receiver_gone(end);
         if let Some(sweep) = last {
             wake_senders(&rt, &state, sweep);
             drop_messages(&rt, &state);
@@ -318,7 +327,7 @@ impl<R: Wait + Drop + Copy, T: Drop, W: Wake> Yields for Receiving<'_, R, T, W> 
 }
 
 impl<R: Wait + Drop + Copy, T: Drop, W: Wake> Future<W> for Receiving<'_, R, T, W> {
-    ghost polled = { λ _ _ _ _. ⊤ };
+    ghost polled = { λ _ waker answer _. IsRegistered W.cloned W.woken_by_ref waker answer };
 
     fn poll(&mut self, waker: &W) -> Poll<Option<T>> {
         self.receiver.poll_receive(waker)

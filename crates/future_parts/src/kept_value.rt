@@ -1,10 +1,11 @@
 //! What a mutex keeps under its lock: the value while nobody has it, and the line of those who wait for it.
-ghost use Rattle.std.specs.Prelude.{◌≡◌, ◌<◌, ◌≤◌, ◌+◌, ◌⊎◌, [], None, Some, true, false, IfOk, IfErr, IsOk, IfSome, IsSome, length, option_map};
+ghost use Rattle.std.specs.Prelude.{◌≡◌, ◌≢◌, ◌<◌, ◌≤◌, ◌+◌, ◌⊎◌, [], None, Some, true, false, IfOk, IfErr, IsOk, IfSome, IsSome, length, option_map};
 ghost use Rattle.std.specs.Option.{option_to_list};
 
+use crate::asked::{Answer, Asked};
 use crate::due::{Due, Lease};
 use crate::line::Place;
-use crate::permits::{Answer, Asked, Permits};
+use crate::permits::Permits;
 use std::alloc::{AllocError, Global};
 
 /// A value that is here, free or assigned to a waiter, or out; and the line.
@@ -55,11 +56,13 @@ impl<T: Drop, W: Drop> KeptValue<T, W> {
     ) -> (Asked<W>, Option<(T, Lease)>)
         ensures polled { Polled result.0.answer self.old.permits place.old.number waker self.new.permits place.new.number result.0.spare }
         ensures reserved { NotRefused result.0.answer self.old.permits waker }
+        ensures waits { result.0.answer ≡ Answer.Waits → IsSome waker }
+        ensures open { result.0.answer ≢ Answer.Closed }
         ensures outside { IsSome result.1 → place.new.number ≡ None }
         ensures value { ValueHandedOut result.0.answer self.old.value (option_map (λ out. out.0) result.1) self.new.value }
     {
         let asked = self.permits.poll_take(place, waker);
-        if asked.answer != Answer::Taken {
+        if asked.answer() != Answer::Taken {
             return (asked, None);
         }
         match self.value.take() {
@@ -83,8 +86,8 @@ impl<T: Drop, W: Drop> KeptValue<T, W> {
     }
 
     /// Gives a place up, as `Permits::leave`. The value stays.
-    pub fn leave(&mut self, place: Place) -> (Due<W>, Option<W>)
-        ensures left { Leaves place.number self.old.permits self.new.permits result.0.waker }
+    pub fn leave(&mut self, place: Place) -> Due<W>
+        ensures left { Leaves place.number self.old.permits self.new.permits result.waker }
         ensures value { self.new.value ≡ self.old.value }
     {
         self.permits.leave(place)

@@ -1,10 +1,11 @@
 //! What a semaphore keeps under its lock: so many permits, each free, assigned to a waiter, or lent.
-ghost use Rattle.std.specs.Prelude.{◌≡◌, ◌<◌, ◌≤◌, ◌+◌, ◌-◌, ◌^◌, ◌↔◌, ◌⊎◌, [], None, Some, true, false, IfOk, IfSome, IsSome, IsTrue, length};
+ghost use Rattle.std.specs.Prelude.{◌≡◌, ◌≢◌, ◌<◌, ◌≤◌, ◌+◌, ◌-◌, ◌^◌, ◌↔◌, ◌⊎◌, [], None, Some, true, false, IfOk, IfSome, IsSome, IsTrue, length};
 ghost use Rattle.std.specs.Option.{option_to_list};
 
+use crate::asked::{Answer, Asked};
 use crate::due::{Due, Lease};
 use crate::line::Place;
-use crate::permits::{Answer, Asked, Permits};
+use crate::permits::Permits;
 use std::alloc::{AllocError, Global};
 
 /// The permits of a semaphore, and the line of those who wait for one.
@@ -16,6 +17,7 @@ pub struct Lent<W: Drop> {
     // Each permit is in one place.
     ghost conserved: { permits.free + permits.given + lent ≡ all },
     ghost small: { all < 2 ^ 64 },
+    ghost open: { permits.closed ≡ false },
 }
 
 impl<W: Drop> Lent<W> {
@@ -55,13 +57,15 @@ impl<W: Drop> Lent<W> {
     pub fn poll_take(&mut self, place: &mut Place, waker: Option<W>) -> (Asked<W>, Option<Lease>)
         ensures polled { Polled result.0.answer self.old.permits place.old.number waker self.new.permits place.new.number result.0.spare }
         ensures reserved { NotRefused result.0.answer self.old.permits waker }
+        ensures waits { result.0.answer ≡ Answer.Waits → IsSome waker }
+        ensures open { result.0.answer ≢ Answer.Closed }
         ensures outside { result.0.answer ≡ Answer.Taken → place.new.number ≡ None }
         ensures lease { IsSome result.1 ↔ (result.0.answer ≡ Answer.Taken) }
         ensures lent { self.new.lent ≡ self.old.lent + lent_by result.0.answer }
         ensures all { self.new.all ≡ self.old.all }
     {
         let asked = self.permits.poll_take(place, waker);
-        if asked.answer != Answer::Taken {
+        if asked.answer() != Answer::Taken {
             return (asked, None);
         }
         self.lent += 1;
@@ -76,15 +80,15 @@ impl<W: Drop> Lent<W> {
     {
         let Lease {} = lease;
         if self.lent == 0 {
-            return Due { waker: None };
+            return Due::new(None);
         }
         self.lent -= 1;
         self.permits.add()
     }
 
     /// Gives a place up, as `Permits::leave`.
-    pub fn leave(&mut self, place: Place) -> (Due<W>, Option<W>)
-        ensures left { Leaves place.number self.old.permits self.new.permits result.0.waker }
+    pub fn leave(&mut self, place: Place) -> Due<W>
+        ensures left { Leaves place.number self.old.permits self.new.permits result.waker }
         ensures lent { self.new.lent ≡ self.old.lent }
         ensures all { self.new.all ≡ self.old.all }
     {

@@ -1,10 +1,11 @@
 //! Futures for every executor. Combinators: `ready`, `pending`, `yield_now`, `join`, `join_all` and `race`. What tasks share: a oneshot, a bounded channel, `Notify`, a semaphore and a mutex.
 //! It stands on the traits of `task_core`, on std's deque and lock, and on `thiserror`.
 //! A user makes one by the function of its name, or by `Notify::new`, `Semaphore::new` or `AsyncMutex::new`, and gives the futures to an executor, or polls them in a future of its own.
-//! `Half` and `KeptOutput`, what a `join` has of its futures, and `Single`, `Messages`, `Notices`, `Lent` and `KeptValue`, what lies under the locks, with what they consist of, are public only to carry the claims.
+//! `Half` and `KeptOutput`, what a `join` has of its futures, and `Single`, `Messages`, `Notices`, `Lent` and `KeptValue`, what lies under the locks, with what they consist of and what shows that a lock is free, are public only to carry the claims.
 //! The page is README.md, beside the code.
 #![tactic(auto)]
 
+mod asked;
 mod async_mutex;
 mod channel_ends;
 mod due;
@@ -24,12 +25,14 @@ mod oneshot_ends;
 mod permits;
 mod racing;
 mod semaphore;
+mod shared;
 mod single;
 mod yielding;
 
+pub use asked::{Answer, Asked};
 pub use async_mutex::{AsyncMutex, Guard, Lock};
 pub use channel_ends::{Receiver, Receiving, Sender, Sending, channel};
-pub use due::{Due, Lease, Notice, ReceiverEnd, SenderEnd, Step, Sweep};
+pub use due::{Due, Lease, Notice, ReceiverEnd, SenderEnd, Spare, Step, Sweep};
 pub use half::Half;
 pub use instant::{Pending, Ready};
 pub use joining::Join;
@@ -43,8 +46,9 @@ pub use messages::{Messages, Received, Sent, TryReceiveError, TrySendError};
 pub use notices::Notices;
 pub use notify::{Notified, Notify};
 pub use oneshot_ends::{OneReceiver, OneSender, oneshot};
-pub use permits::{Answer, Asked, Permits};
+pub use permits::Permits;
 pub use racing::{Race, Raced};
 pub use semaphore::{Acquire, Permit, Semaphore};
-pub use single::{Found, Single};
+pub use shared::{Shared, Unlocked};
+pub use single::Single;
 pub use yielding::YieldNow;

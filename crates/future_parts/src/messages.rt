@@ -3,9 +3,10 @@ ghost use Rattle.std.specs.Prelude.{◌≡◌, ◌<◌, ◌≤◌, ◌+◌, ◌-
 ghost use Rattle.std.specs.Option.{option_to_list};
 ghost use Rattle.std.specs.VecDeque.{deque_capacity};
 
+use crate::asked::{Answer, Asked};
 use crate::due::{Due, ReceiverEnd, SenderEnd, Step, Sweep};
 use crate::line::Place;
-use crate::permits::{Answer, Permits};
+use crate::permits::Permits;
 use std::alloc::{AllocError, Global};
 use std::collections::VecDeque;
 use std::{fmt, io};
@@ -74,25 +75,21 @@ impl From<TryReceiveError> for io::Error {
 /// What a send that may wait led to.
 pub struct Sent<T, W> {
     /// `Taken` where the message was sent, `Closed` where all receivers are gone.
-    pub answer: Answer,
+    pub asked: Asked<W>,
     /// The message, where it was not sent.
     pub back: Option<T>,
     /// The receiver that waited for it.
     pub due: Due<W>,
-    /// A waker that is not needed: drop it once the lock is given back.
-    pub spare: Option<W>,
 }
 
 /// What a receive that may wait led to.
 pub struct Received<T, W> {
     /// `Taken` where there is a message, `Closed` where none is left and all senders are gone.
-    pub answer: Answer,
+    pub asked: Asked<W>,
     /// The message.
     pub message: Option<T>,
     /// The sender that waited for the room.
     pub due: Due<W>,
-    /// A waker that is not needed: drop it once the lock is given back.
-    pub spare: Option<W>,
 }
 
 /// Messages in the order in which they were sent, with room for so many.
@@ -181,77 +178,74 @@ impl<T: Drop, W: Drop> Messages<T, W> {
 
     /// Sends a message, or has the waker wait for room in its place, as `Permits::poll_take`. It asks for no memory for the message.
     pub fn poll_send(&mut self, place: &mut Place, message: T, waker: Option<W>) -> Sent<T, W>
-        ensures reserved { NotRefused result.answer self.old.room waker }
-        ensures led { SendLed result.answer self.old place.old.number waker self.new place.new.number result.spare }
-        ensures sent { result.answer ≡ Answer.Taken → (result.back ≡ None) × SentTo message self.old self.new result.due.waker }
-        ensures back { (result.answer ≡ Answer.Taken → ⊥) → (result.back ≡ Some message) × (result.due.waker ≡ None) × (self.new.messages.items ≡ self.old.messages.items) × Same self.old.here self.new.here }
+        ensures reserved { NotRefused result.asked.answer self.old.room waker }
+        ensures waits { result.asked.answer ≡ Answer.Waits → IsSome waker }
+        ensures led { SendLed result.asked.answer self.old place.old.number waker self.new place.new.number result.asked.spare }
+        ensures sent { result.asked.answer ≡ Answer.Taken → (result.back ≡ None) × SentTo message self.old self.new result.due.waker }
+        ensures back { (result.asked.answer ≡ Answer.Taken → ⊥) → (result.back ≡ Some message) × (result.due.waker ≡ None) × (self.new.messages.items ≡ self.old.messages.items) × Same self.old.here self.new.here }
         ensures peers { SamePeers self.old self.new }
     {
         if self.room.closed {
             return Sent {
-                answer: Answer::Closed,
+                asked: Asked::new(Answer::Closed, waker),
                 back: Some(message),
-                due: Due { waker: None },
-                spare: waker,
+                due: Due::new(None),
             };
         }
         let asked = self.room.poll_take(place, waker);
-        if asked.answer == Answer::Taken {
+        if asked.answer() == Answer::Taken {
             self.messages.push_back_reserved(message);
             return Sent {
-                answer: asked.answer,
+                asked,
                 back: None,
                 due: self.here.add(),
-                spare: asked.spare,
             };
         }
         Sent {
-            answer: asked.answer,
+            asked,
             back: Some(message),
-            due: Due { waker: None },
-            spare: asked.spare,
+            due: Due::new(None),
         }
     }
 
     /// Receives a message, or has the waker wait for one in its place, as `Permits::poll_take`.
     pub fn poll_receive(&mut self, place: &mut Place, waker: Option<W>) -> Received<T, W>
-        ensures reserved { NotRefused result.answer self.old.here waker }
-        ensures polled { Polled result.answer self.old.here place.old.number waker self.new.here place.new.number result.spare }
-        ensures received { result.answer ≡ Answer.Taken → IfSome result.message (λ message. ReceivedFrom message self.old self.new result.due.waker) × IsSome result.message }
-        ensures none { (result.answer ≡ Answer.Taken → ⊥) → (result.message ≡ None) × (result.due.waker ≡ None) × (self.new.messages.items ≡ self.old.messages.items) × Same self.old.room self.new.room }
+        ensures reserved { NotRefused result.asked.answer self.old.here waker }
+        ensures waits { result.asked.answer ≡ Answer.Waits → IsSome waker }
+        ensures polled { Polled result.asked.answer self.old.here place.old.number waker self.new.here place.new.number result.asked.spare }
+        ensures received { result.asked.answer ≡ Answer.Taken → IfSome result.message (λ message. ReceivedFrom message self.old self.new result.due.waker) × IsSome result.message }
+        ensures none { (result.asked.answer ≡ Answer.Taken → ⊥) → (result.message ≡ None) × (result.due.waker ≡ None) × (self.new.messages.items ≡ self.old.messages.items) × Same self.old.room self.new.room }
         ensures peers { SamePeers self.old self.new }
     {
         let asked = self.here.poll_take(place, waker);
-        if asked.answer == Answer::Taken {
+        if asked.answer() == Answer::Taken {
             return match self.messages.pop_front() {
                 Some(message) => Received {
-                    answer: asked.answer,
+                    asked,
                     message: Some(message),
                     due: self.room.add(),
-                    spare: asked.spare,
                 },
                 None => unreachable!(),
             };
         }
         Received {
-            answer: asked.answer,
+            asked,
             message: None,
-            due: Due { waker: None },
-            spare: asked.spare,
+            due: Due::new(None),
         }
     }
 
     /// Gives up the place of a sender, as `Permits::leave`: room that was assigned to it goes on.
-    pub fn leave_room(&mut self, place: Place) -> (Due<W>, Option<W>)
-        ensures left { Leaves place.number self.old.room self.new.room result.0.waker }
+    pub fn leave_room(&mut self, place: Place) -> Due<W>
+        ensures left { Leaves place.number self.old.room self.new.room result.waker }
         ensures rest { (self.new.messages.items ≡ self.old.messages.items) × Same self.old.here self.new.here × SamePeers self.old self.new }
     {
         self.room.leave(place)
     }
 
     /// Gives up the place of a receiver, as `Permits::leave`: a message that was assigned to it goes on.
-    pub fn leave_here(&mut self, place: Place) -> (Due<W>, Option<W>)
-        ensures left { Leaves place.number self.old.here self.new.here result.0.waker }
+    pub fn leave_here(&mut self, place: Place) -> Due<W>
+        ensures left { Leaves place.number self.old.here self.new.here result.waker }
         ensures rest { (self.new.messages.items ≡ self.old.messages.items) × Same self.old.room self.new.room × SamePeers self.old self.new }
     {
         self.here.leave(place)
@@ -260,6 +254,7 @@ impl<T: Drop, W: Drop> Messages<T, W> {
     /// One more sender. `None` where there are as many as can be counted, or none is left.
     pub fn add_sender(&mut self) -> Option<SenderEnd>
         ensures added { self.new.senders ≡ self.old.senders + length (option_to_list result) }
+        ensures none { IsNone result → (self.old.senders ≡ 0) ⊎ (self.old.senders + 1 ≡ 2 ^ 64) }
         ensures rest { Unchanged self.old self.new × (self.new.receivers ≡ self.old.receivers) × SameClosed self.old self.new }
     {
         if self.senders == 0 || self.senders == usize::MAX {
@@ -272,6 +267,7 @@ impl<T: Drop, W: Drop> Messages<T, W> {
     /// One more receiver. `None` where there are as many as can be counted, or none is left.
     pub fn add_receiver(&mut self) -> Option<ReceiverEnd>
         ensures added { self.new.receivers ≡ self.old.receivers + length (option_to_list result) }
+        ensures none { IsNone result → (self.old.receivers ≡ 0) ⊎ (self.old.receivers + 1 ≡ 2 ^ 64) }
         ensures rest { Unchanged self.old self.new × (self.new.senders ≡ self.old.senders) × SameClosed self.old self.new }
     {
         if self.receivers == 0 || self.receivers == usize::MAX {

@@ -2,9 +2,10 @@
 ghost use Rattle.std.specs.Prelude.{◌≡◌, ◌≢◌, ◌<◌, ◌≤◌, ◌+◌, ◌^◌, ◌⊎◌, [], None, Some, true, false, IfOk, IfSome, IsSome, length};
 ghost use Rattle.std.specs.Option.{option_to_list};
 
+use crate::asked::{Answer, Asked};
 use crate::due::{Due, Notice, Step};
 use crate::line::Place;
-use crate::permits::{Answer, Asked, Permits};
+use crate::permits::Permits;
 use std::alloc::{AllocError, Global};
 
 /// Notifications: one that is kept, those that are assigned to a waiter, and the line.
@@ -33,33 +34,39 @@ impl<W: Drop> Notices<W> {
     pub fn notify_one(&mut self) -> Due<W>
         ensures { Notified self.old.permits self.new.permits result.waker }
     {
+        Due::new(self.assign())
+    }
+
+    // The same. Answers the waker that is to be woken.
+    fn assign(&mut self) -> Option<W>
+        ensures { Notified self.old.permits self.new.permits result }
+    {
         if self.permits.free > 0 {
-            return Due { waker: None };
+            return None;
         }
-        self.permits.add()
+        self.permits.assign()
     }
 
     /// Asks for a notification, as `Permits::poll_take`.
     pub fn poll_take(&mut self, place: &mut Place, waker: Option<W>) -> Asked<W>
         ensures polled { Polled result.answer self.old.permits place.old.number waker self.new.permits place.new.number result.spare }
         ensures reserved { NotRefused result.answer self.old.permits waker }
+        ensures waits { result.answer ≡ Answer.Waits → IsSome waker }
+        ensures open { result.answer ≢ Answer.Closed }
         ensures outside { result.answer ≡ Answer.Taken → place.new.number ≡ None }
     {
         self.permits.poll_take(place, waker)
     }
 
     /// Gives a place up. Its waiter leaves the line, and a notification that was assigned to it notifies another.
-    pub fn leave(&mut self, place: Place) -> (Due<W>, Option<W>)
-        ensures out { IfSome (spot place.number (waiting self.old.permits.line)) (λ index. LeavesLine self.old.permits self.new.permits index × (result.0.waker ≡ None)) }
-        ensures on { spot place.number (waiting self.old.permits.line) ≡ None → IsSome place.number → 0 < self.old.permits.given → self.old.permits.free ≡ 0 → HandedOn self.old.permits self.new.permits result.0.waker }
-        ensures none { spot place.number (waiting self.old.permits.line) ≡ None → (self.old.permits.given ≡ 0) ⊎ (place.number ≡ None) → Same self.old.permits self.new.permits × (result.0.waker ≡ None) }
+    pub fn leave(&mut self, place: Place) -> Due<W>
+        ensures out { IfSome (spot place.number (waiting self.old.permits.line)) (λ index. LeavesLine self.old.permits self.new.permits index × (result.waker ≡ None)) }
+        ensures on { spot place.number (waiting self.old.permits.line) ≡ None → IsSome place.number → 0 < self.old.permits.given → self.old.permits.free ≡ 0 → HandedOn self.old.permits self.new.permits result.waker }
+        ensures none { spot place.number (waiting self.old.permits.line) ≡ None → (self.old.permits.given ≡ 0) ⊎ (place.number ≡ None) → Same self.old.permits self.new.permits × (result.waker ≡ None) }
     {
         let (had, spare) = self.permits.end(place);
-        if had {
-            (self.notify_one(), spare)
-        } else {
-            (Due { waker: None }, spare)
-        }
+        let waker = if had { self.assign() } else { None };
+        Due::with_spare(waker, spare)
     }
 
     /// Begins to notify all that wait now.

@@ -1,50 +1,60 @@
 //! A notification without a value.
-ghost use Rattle.std.specs.Prelude.{◌≡◌, ⊤, None, true, is_none};
+ghost use Rattle.std.specs.Prelude.{◌≡◌, None, Some, true, is_none, IfOk, IfSome};
+ghost use Rattle.std.specs.Arc.{arc_value};
+ghost use Rattle.future_parts.specs.Registering.{made_with, AwaitPolled};
 
+use crate::asked::{Answer, own_waker};
 use crate::due::Step;
 use crate::line::Place;
 use crate::notices::Notices;
-use crate::permits::Answer;
+use crate::shared::Shared;
 use std::alloc::{AllocError, Global};
-use std::sync::{Arc, Mutex, Wait};
+use std::sync::{Arc, Wait};
 use task_core::{Future, Poll, Wake, Yields};
 
 /// A handle by which tasks notify each other. All clones notify the same waiters. `W` is the waker of the futures that wait.
 #[derive(Drop)]
 pub struct Notify<R: Wait + Drop + Copy, W: Wake> {
     rt: R,
-    state: Arc<Mutex<Notices<W>>>,
+    state: Arc<Shared<Notices<W>>>,
 }
 
 impl<R: Wait + Drop + Copy, W: Wake> Notify<R, W> {
     /// A `Notify` without a notification. `rt` is what its calls take the lock by, `alloc` where its memory comes from. So many waiters as `room` says need no memory.
     ///
     /// An error says that memory was refused.
-    pub fn new(rt: R, alloc: Global, room: usize) -> Result<Notify<R, W>, AllocError> {
-        let state = Arc::new(alloc, Mutex::new(Notices::new(alloc, room)?))?;
+    pub fn new(rt: R, alloc: Global, room: usize) -> Result<Notify<R, W>, AllocError>
+        ensures room { IfOk result (λ made. (made_with (arc_value made.state)).permits.line.room ≡ room) }
+        ensures none { IfOk result (λ made. (made_with (arc_value made.state)).permits.free ≡ 0) }
+    {
+        let state = Arc::new(alloc, Shared::new(Notices::new(alloc, room)?))?;
         Ok(Notify { rt, state })
     }
 
     /// A second handle to the same. It asks for no memory. `None` says that there are as many as can be counted.
-    pub fn try_clone(&self) -> Option<Notify<R, W>> {
+    pub fn try_clone(&self) -> Option<Notify<R, W>>
+        ensures { IfSome result (λ other. arc_value other.state ≡ arc_value self.now.state) }
+    {
         let state = Arc::try_clone(&self.state).ok()?;
         Some(Notify { rt: self.rt, state })
     }
 
     /// Notifies the future that has waited longest. Where none waits, the notification is kept for the next one, unless one is kept already.
     pub fn notify_one(&self) {
-        let due = self.state.lock(&self.rt).notify_one();
-        due.wake();
+        let mut unlocked = self.state.unlocked();
+        let due = unlocked.lock(&self.rt).notify_one();
+        due.wake(&unlocked);
     }
 
     /// Notifies all futures that wait now: those that were polled. Nothing is kept for later ones.
     pub fn notify_waiters(&self) {
-        let mut notice = self.state.lock(&self.rt).notify_waiters();
+        let mut unlocked = self.state.unlocked();
+        let mut notice = unlocked.lock(&self.rt).notify_waiters();
         for _ in self.rt.forever() {
-            let step = self.state.lock(&self.rt).tell(notice);
+            let step = unlocked.lock(&self.rt).tell(notice);
             match step {
                 Step::Next(due, rest) => {
-                    due.wake();
+                    due.wake(&unlocked);
                     notice = rest;
                 }
                 Step::Done => return,
@@ -56,7 +66,9 @@ impl<R: Wait + Drop + Copy, W: Wake> Notify<R, W> {
     /// A future that waits for a notification. It stands in the line from its first poll on.
     ///
     /// Where it is dropped after it was notified and before it answered, the notification goes to the next one, as that of `notify_one` does, whichever call it was.
-    pub fn notified(self) -> Notified<R, W> {
+    pub fn notified(self) -> Notified<R, W>
+        ensures { (result.state ≡ Some self.state) × (result.place.number ≡ None) }
+    {
         Notified {
             rt: self.rt,
             state: Some(self.state),
@@ -69,7 +81,7 @@ impl<R: Wait + Drop + Copy, W: Wake> Notify<R, W> {
 pub struct Notified<R: Wait + Drop + Copy, W: Wake> {
     rt: R,
     // None once it has answered.
-    state: Option<Arc<Mutex<Notices<W>>>>,
+    state: Option<Arc<Shared<Notices<W>>>>,
     place: Place,
     ghost ended: { is_none state ≡ true → place.number ≡ None },
 }
@@ -79,9 +91,9 @@ impl<R: Wait + Drop + Copy, W: Wake> Drop for Notified<R, W> {
         let Notified { rt, state, place } = self;
         match state {
             Some(state) => {
-                let (due, spare) = state.lock(&rt).leave(place);
-                due.wake();
-                drop(spare);
+                let mut unlocked = state.unlocked();
+                let due = unlocked.lock(&rt).leave(place);
+                due.wake(&unlocked);
             }
             None => {
                 place.end();
@@ -95,21 +107,17 @@ impl<R: Wait + Drop + Copy, W: Wake> Yields for Notified<R, W> {
 }
 
 impl<R: Wait + Drop + Copy, W: Wake> Future<W> for Notified<R, W> {
-    ghost polled = { λ _ _ _ _. ⊤ };
+    ghost polled = { λ old waker answer new. AwaitPolled W.cloned W.woken_by_ref (λ handle. handle.state) old.state waker answer new.state };
 
     fn poll(&mut self, waker: &W) -> Poll<Notify<R, W>> {
         let Some(state) = &self.state else {
             return Poll::Pending;
         };
-        let own = waker.try_clone();
-        let asked = state.lock(&self.rt).poll_take(&mut self.place, own);
-        match asked.answer {
-            Answer::Taken => {}
-            Answer::Closed | Answer::Waits => return Poll::Pending,
-            Answer::Refused => {
-                waker.wake_by_ref();
-                return Poll::Pending;
-            }
+        let own = own_waker(waker);
+        let mut unlocked = state.unlocked();
+        let asked = unlocked.lock(&self.rt).poll_take(&mut self.place, own);
+        if asked.settle(waker, &unlocked) != Answer::Taken {
+            return Poll::Pending;
         }
         match self.state.take() {
             Some(state) => Poll::Ready(Notify { rt: self.rt, state }),

@@ -1,10 +1,14 @@
 //! A channel for one value.
-ghost use Rattle.std.specs.Prelude.{◌≡◌, ⊤, IfErr};
+ghost use Rattle.std.specs.Prelude.{◌≡◌, IfErr, IfOk};
+ghost use Rattle.std.specs.Arc.{arc_value};
+ghost use Rattle.future_parts.specs.Registering.{IsRegistered};
 
+use crate::asked::{Answer, own_waker};
 use crate::due::{ReceiverEnd, SenderEnd, first_ends};
-use crate::single::{Found, Single};
+use crate::shared::Shared;
+use crate::single::Single;
 use std::alloc::{AllocError, Global};
-use std::sync::{Arc, Mutex, Wait};
+use std::sync::{Arc, Wait};
 use task_core::{Future, Poll, Wake, Yields};
 
 /// The two ends of a oneshot. `rt` is what its calls take the lock by, `alloc` where its memory comes from: one block, made here. `W` is the waker of the future that waits.
@@ -13,8 +17,10 @@ use task_core::{Future, Poll, Wake, Yields};
 pub fn oneshot<R: Wait + Drop + Copy, T: Drop, W: Wake>(
     rt: R,
     alloc: Global,
-) -> Result<(OneSender<R, T, W>, OneReceiver<R, T, W>), AllocError> {
-    let state = Arc::new(alloc, Mutex::new(Single::new()))?;
+) -> Result<(OneSender<R, T, W>, OneReceiver<R, T, W>), AllocError>
+    ensures { IfOk result (λ ends. arc_value ends.1.state ≡ arc_value ends.0.state) }
+{
+    let state = Arc::new(alloc, Shared::new(Single::new()))?;
     let other = Arc::try_clone(&state)?;
     let (sending, receiving) = first_ends();
     let sender = OneSender {
@@ -33,7 +39,7 @@ pub fn oneshot<R: Wait + Drop + Copy, T: Drop, W: Wake>(
 /// Sends the value. Where it is dropped without, the receiver is answered `None`.
 pub struct OneSender<R: Wait + Drop + Copy, T: Drop, W: Wake> {
     rt: R,
-    state: Arc<Mutex<Single<T, W>>>,
+    state: Arc<Shared<Single<T, W>>>,
     // None once the value was sent.
     end: Option<SenderEnd>,
 }
@@ -46,8 +52,9 @@ impl<R: Wait + Drop + Copy, T: Drop, W: Wake> OneSender<R, T, W> {
         let Some(end) = self.end.take() else {
             return Err(value);
         };
-        let due = self.state.lock(&self.rt).send(end, value)?;
-        due.wake();
+        let mut unlocked = self.state.unlocked();
+        let due = unlocked.lock(&self.rt).send(end, value)?;
+        due.wake(&unlocked);
         Ok(())
     }
 }
@@ -56,8 +63,9 @@ impl<R: Wait + Drop + Copy, T: Drop, W: Wake> Drop for OneSender<R, T, W> {
     fn drop(self) {
         let OneSender { rt, state, end } = self;
         if let Some(end) = end {
-            let due = state.lock(&rt).sender_gone(end);
-            due.wake();
+            let mut unlocked = state.unlocked();
+            let due = unlocked.lock(&rt).sender_gone(end);
+            due.wake(&unlocked);
         }
     }
 }
@@ -65,15 +73,16 @@ impl<R: Wait + Drop + Copy, T: Drop, W: Wake> Drop for OneSender<R, T, W> {
 /// The future of the value: its output is `None` where the sender is gone without it. Where it is dropped, a value that was sent is dropped with it.
 pub struct OneReceiver<R: Wait + Drop + Copy, T: Drop, W: Wake> {
     rt: R,
-    state: Arc<Mutex<Single<T, W>>>,
+    state: Arc<Shared<Single<T, W>>>,
     end: ReceiverEnd,
 }
 
 impl<R: Wait + Drop + Copy, T: Drop, W: Wake> Drop for OneReceiver<R, T, W> {
     fn drop(self) {
         let OneReceiver { rt, state, end } = self;
-        let left = state.lock(&rt).receiver_gone(end);
-        drop(left);
+        let mut unlocked = state.unlocked();
+        let left = unlocked.lock(&rt).receiver_gone(end);
+        left.discard(&unlocked);
     }
 }
 
@@ -82,20 +91,15 @@ impl<R: Wait + Drop + Copy, T: Drop, W: Wake> Yields for OneReceiver<R, T, W> {
 }
 
 impl<R: Wait + Drop + Copy, T: Drop, W: Wake> Future<W> for OneReceiver<R, T, W> {
-    ghost polled = { λ _ _ _ _. ⊤ };
+    ghost polled = { λ _ waker answer _. IsRegistered W.cloned W.woken_by_ref waker answer };
 
     fn poll(&mut self, waker: &W) -> Poll<Option<T>> {
-        let own = waker.try_clone();
-        let (found, spare) = self.state.lock(&self.rt).poll(own);
-        drop(spare);
-        match found {
-            Found::Value(value) => Poll::Ready(Some(value)),
-            Found::Closed => Poll::Ready(None),
-            Found::Waits => Poll::Pending,
-            Found::Refused => {
-                waker.wake_by_ref();
-                Poll::Pending
-            }
+        let own = own_waker(waker);
+        let mut unlocked = self.state.unlocked();
+        let (asked, value) = unlocked.lock(&self.rt).poll(own);
+        match asked.settle(waker, &unlocked) {
+            Answer::Taken | Answer::Closed => Poll::Ready(value),
+            Answer::Waits | Answer::Refused => Poll::Pending,
         }
     }
 }

@@ -2,29 +2,10 @@
 ghost use Rattle.std.specs.Prelude.{◌≡◌, ◌≢◌, ◌<◌, ◌≤◌, ◌+◌, ◌-◌, ◌^◌, ◌↔◌, ℕ, [], None, Some, true, false, IfOk, IfSome, IsSome, IsTrue, length, ◌⊎◌};
 ghost use Rattle.std.specs.Option.{option_to_list};
 
+use crate::asked::{Answer, Asked};
 use crate::due::{Due, Step, Sweep};
 use crate::line::{Line, Place};
 use std::alloc::{AllocError, Global};
-
-/// What asking for a permit led to.
-#[derive(Clone, Copy, Debug, PartialEq, Eq)]
-pub enum Answer {
-    /// A permit was taken. The place is outside.
-    Taken,
-    /// No permit is left, and none will come. The place is outside.
-    Closed,
-    /// None is to be had yet. The waker waits in the line, and is woken once a permit is assigned to it, or none will come.
-    Waits,
-    /// None is to be had yet, and the waker could not join the line: there was no clone of it, or no memory. Nothing has changed.
-    Refused,
-}
-
-/// An answer, and a waker that is not needed: drop it once the lock is given back.
-#[derive(Drop)]
-pub struct Asked<W: Drop> {
-    pub answer: Answer,
-    pub spare: Option<W>,
-}
 
 /// Permits: those that are free, those that are assigned to a waiter that left the line and has not taken its own yet, and the line.
 #[derive(Drop)]
@@ -63,12 +44,20 @@ impl<W: Drop> Permits<W> {
         requires { self.old.free + self.old.given + 1 < 2 ^ 64 }
         ensures { Added self.old self.new result.waker }
     {
+        Due::new(self.assign())
+    }
+
+    // The same. Answers the waker that is to be woken.
+    pub(crate) fn assign(&mut self) -> Option<W>
+        requires { self.old.free + self.old.given + 1 < 2 ^ 64 }
+        ensures { Added self.old self.new result }
+    {
         let waker = self.line.take_first();
         match &waker {
             Some(_) => self.given += 1,
             None => self.free += 1,
         }
-        Due { waker }
+        waker
     }
 
     /// Takes a free permit, if there is one.
@@ -108,22 +97,15 @@ impl<W: Drop> Permits<W> {
         requires { self.old.free ≡ 0 }
         ensures joined { Joined result.answer self.old place.old.number waker self.new place.new.number result.spare }
         ensures reserved { NotRefused result.answer self.old waker }
+        ensures waits { result.answer ≡ Answer.Waits → IsSome waker }
+        ensures open { result.answer ≢ Answer.Closed }
     {
         let Some(waker) = waker else {
-            return Asked {
-                answer: Answer::Refused,
-                spare: None,
-            };
+            return Asked::new(Answer::Refused, None);
         };
         match self.line.join(place, waker) {
-            Ok(()) => Asked {
-                answer: Answer::Waits,
-                spare: None,
-            },
-            Err(waker) => Asked {
-                answer: Answer::Refused,
-                spare: Some(waker),
-            },
+            Ok(()) => Asked::new(Answer::Waits, None),
+            Err(waker) => Asked::new(Answer::Refused, Some(waker)),
         }
     }
 
@@ -132,17 +114,13 @@ impl<W: Drop> Permits<W> {
         requires { index < length (waiting self.old.line) }
         ensures renewed { Renewed index result.answer self.old waker self.new result.spare }
         ensures reserved { NotRefused result.answer self.old waker }
+        ensures waits { result.answer ≡ Answer.Waits → IsSome waker }
+        ensures open { result.answer ≢ Answer.Closed }
     {
         let Some(waker) = waker else {
-            return Asked {
-                answer: Answer::Refused,
-                spare: None,
-            };
+            return Asked::new(Answer::Refused, None);
         };
-        Asked {
-            answer: Answer::Waits,
-            spare: Some(self.line.renew(index, waker)),
-        }
+        Asked::new(Answer::Waits, Some(self.line.renew(index, waker)))
     }
 
     /// Asks for a permit, for a place and a clone of the waker that it is polled by, or `None` where there is no clone.
@@ -152,22 +130,18 @@ impl<W: Drop> Permits<W> {
         ensures polled { Polled result.answer self.old place.old.number waker self.new place.new.number result.spare }
         ensures reserved { NotRefused result.answer self.old waker }
         ensures outside { result.answer ≡ Answer.Taken → place.new.number ≡ None }
+        ensures waits { result.answer ≡ Answer.Waits → IsSome waker }
+        ensures closed { result.answer ≡ Answer.Closed → self.old.closed ≡ true }
     {
         if let Some(index) = self.line.position(place) {
             return self.renew(index, waker);
         }
         if self.take(place) {
-            return Asked {
-                answer: Answer::Taken,
-                spare: waker,
-            };
+            return Asked::new(Answer::Taken, waker);
         }
         if self.closed {
             place.number = None;
-            return Asked {
-                answer: Answer::Closed,
-                spare: waker,
-            };
+            return Asked::new(Answer::Closed, waker);
         }
         self.join(place, waker)
     }
@@ -194,19 +168,14 @@ impl<W: Drop> Permits<W> {
     }
 
     /// Gives a place up. Its waiter leaves the line, and a permit that was assigned to it goes on: to the waiter that came first, or to those that are free.
-    ///
-    /// Drop the waker of the answer once the lock is given back.
-    pub fn leave(&mut self, place: Place) -> (Due<W>, Option<W>)
+    pub fn leave(&mut self, place: Place) -> Due<W>
         ensures kept { self.new.free + self.new.given ≡ self.old.free + self.old.given }
         ensures closed { self.new.closed ≡ self.old.closed }
-        ensures left { Leaves place.number self.old self.new result.0.waker }
+        ensures left { Leaves place.number self.old self.new result.waker }
     {
         let (had, spare) = self.end(place);
-        if had {
-            (self.add(), spare)
-        } else {
-            (Due { waker: None }, spare)
-        }
+        let waker = if had { self.assign() } else { None };
+        Due::with_spare(waker, spare)
     }
 
     /// Closes: who asks from now on takes what is left, and does not wait. Who waits in the line is to be woken.
@@ -225,7 +194,7 @@ impl<W: Drop> Permits<W> {
         ensures first { FirstOut (waiting self.old.line) (woken_by result) (waiting self.new.line) }
     {
         match self.line.take_first() {
-            Some(waker) => Step::Next(Due { waker: Some(waker) }, sweep),
+            Some(waker) => Step::Next(Due::new(Some(waker)), sweep),
             None => {
                 let Sweep {} = sweep;
                 Step::Done

@@ -1,19 +1,22 @@
 //! A semaphore: permits for so many at a time, and a line for those who wait.
-ghost use Rattle.std.specs.Prelude.{◌≡◌, ⊤, None, true, is_none, IfErr};
+ghost use Rattle.std.specs.Prelude.{◌≡◌, None, Some, true, is_none, IfErr, IfOk, IfSome};
+ghost use Rattle.std.specs.Arc.{arc_value};
+ghost use Rattle.future_parts.specs.Registering.{made_with, AwaitPolled};
 
+use crate::asked::own_waker;
 use crate::due::Lease;
 use crate::lent::Lent;
 use crate::line::Place;
-use crate::permits::Answer;
+use crate::shared::Shared;
 use std::alloc::{AllocError, Global};
-use std::sync::{Arc, Mutex, Wait};
+use std::sync::{Arc, Wait};
 use task_core::{Future, Poll, Wake, Yields};
 
 /// A handle to a semaphore. All clones share its permits. `W` is the waker of the futures that wait.
 #[derive(Drop)]
 pub struct Semaphore<R: Wait + Drop + Copy, W: Wake> {
     rt: R,
-    state: Arc<Mutex<Lent<W>>>,
+    state: Arc<Shared<Lent<W>>>,
 }
 
 impl<R: Wait + Drop + Copy, W: Wake> Semaphore<R, W> {
@@ -25,22 +28,28 @@ impl<R: Wait + Drop + Copy, W: Wake> Semaphore<R, W> {
         alloc: Global,
         permits: usize,
         room: usize,
-    ) -> Result<Semaphore<R, W>, AllocError> {
-        let state = Arc::new(alloc, Mutex::new(Lent::new(alloc, permits, room)?))?;
+    ) -> Result<Semaphore<R, W>, AllocError>
+        ensures permits { IfOk result (λ made. (made_with (arc_value made.state)).permits.free ≡ permits) }
+        ensures room { IfOk result (λ made. (made_with (arc_value made.state)).permits.line.room ≡ room) }
+    {
+        let state = Arc::new(alloc, Shared::new(Lent::new(alloc, permits, room)?))?;
         Ok(Semaphore { rt, state })
     }
 
     /// A second handle to the same semaphore. It asks for no memory. `None` says that there are as many as can be counted.
-    pub fn try_clone(&self) -> Option<Semaphore<R, W>> {
+    pub fn try_clone(&self) -> Option<Semaphore<R, W>>
+        ensures { IfSome result (λ other. arc_value other.state ≡ arc_value self.now.state) }
+    {
         let state = Arc::try_clone(&self.state).ok()?;
         Some(Semaphore { rt: self.rt, state })
     }
 
     /// Takes a permit, if one is free. An error hands the handle back: none is, or others wait.
     pub fn try_acquire(self) -> Result<Permit<R, W>, Semaphore<R, W>>
-        ensures { IfErr result (λ back. back ≡ self) }
+        ensures permit { IfOk result (λ permit. permit.semaphore ≡ self) }
+        ensures back { IfErr result (λ back. back ≡ self) }
     {
-        let taken = self.state.lock(&self.rt).try_take();
+        let taken = self.state.unlocked().lock(&self.rt).try_take();
         match taken {
             Some(lease) => Ok(Permit {
                 semaphore: self,
@@ -51,7 +60,9 @@ impl<R: Wait + Drop + Copy, W: Wake> Semaphore<R, W> {
     }
 
     /// A future that waits for a permit. Who waits longest has the next one.
-    pub fn acquire(self) -> Acquire<R, W> {
+    pub fn acquire(self) -> Acquire<R, W>
+        ensures { (result.state ≡ Some self.state) × (result.place.number ≡ None) }
+    {
         Acquire {
             rt: self.rt,
             state: Some(self.state),
@@ -69,15 +80,16 @@ pub struct Permit<R: Wait + Drop + Copy, W: Wake> {
 impl<R: Wait + Drop + Copy, W: Wake> Drop for Permit<R, W> {
     fn drop(self) {
         let Permit { semaphore, lease } = self;
-        let due = semaphore.state.lock(&semaphore.rt).give_back(lease);
-        due.wake();
+        let mut unlocked = semaphore.state.unlocked();
+        let due = unlocked.lock(&semaphore.rt).give_back(lease);
+        due.wake(&unlocked);
     }
 }
 
 /// The future of `acquire`.
 pub struct Acquire<R: Wait + Drop + Copy, W: Wake> {
     rt: R,
-    state: Option<Arc<Mutex<Lent<W>>>>,
+    state: Option<Arc<Shared<Lent<W>>>>,
     place: Place,
     ghost ended: { is_none state ≡ true → place.number ≡ None },
 }
@@ -87,9 +99,9 @@ impl<R: Wait + Drop + Copy, W: Wake> Drop for Acquire<R, W> {
         let Acquire { rt, state, place } = self;
         match state {
             Some(state) => {
-                let (due, spare) = state.lock(&rt).leave(place);
-                due.wake();
-                drop(spare);
+                let mut unlocked = state.unlocked();
+                let due = unlocked.lock(&rt).leave(place);
+                due.wake(&unlocked);
             }
             None => {
                 place.end();
@@ -103,17 +115,16 @@ impl<R: Wait + Drop + Copy, W: Wake> Yields for Acquire<R, W> {
 }
 
 impl<R: Wait + Drop + Copy, W: Wake> Future<W> for Acquire<R, W> {
-    ghost polled = { λ _ _ _ _. ⊤ };
+    ghost polled = { λ old waker answer new. AwaitPolled W.cloned W.woken_by_ref (λ permit. permit.semaphore.state) old.state waker answer new.state };
 
     fn poll(&mut self, waker: &W) -> Poll<Permit<R, W>> {
         let Some(state) = &self.state else {
             return Poll::Pending;
         };
-        let own = waker.try_clone();
-        let (asked, taken) = state.lock(&self.rt).poll_take(&mut self.place, own);
-        if asked.answer == Answer::Refused {
-            waker.wake_by_ref();
-        }
+        let own = own_waker(waker);
+        let mut unlocked = state.unlocked();
+        let (asked, taken) = unlocked.lock(&self.rt).poll_take(&mut self.place, own);
+        asked.settle(waker, &unlocked);
         let Some(lease) = taken else {
             return Poll::Pending;
         };

@@ -1,21 +1,9 @@
 //! What a oneshot keeps under its lock: the value once it was sent, and the waker of who waits for it.
-ghost use Rattle.std.specs.Prelude.{◌≡◌, None, Some, true, false, IsTrue, IfOk, IfErr, IsOk, Err, is_some, is_none};
+ghost use Rattle.std.specs.Prelude.{◌≡◌, None, Some, true, false, IsTrue, IfOk, IfErr, IsOk, IsSome, Err, is_some, is_none};
 
-use crate::due::{Due, ReceiverEnd, SenderEnd};
+use crate::asked::{Answer, Asked};
+use crate::due::{Due, ReceiverEnd, SenderEnd, Spare};
 use std::mem;
-
-/// What a receive from a oneshot found.
-#[derive(Debug, PartialEq, Eq, Drop)]
-pub enum Found<T> {
-    /// The value, which is handed out.
-    Value(T),
-    /// No value will come: the sender is gone, or the value was handed out.
-    Closed,
-    /// None is here yet. The waker waits, and is woken once one is, or none will come.
-    Waits,
-    /// None is here yet, and there was no waker to wait. Nothing has changed.
-    Refused,
-}
 
 /// A value that is sent once, or the waker of who waits for it.
 #[derive(Drop)]
@@ -60,7 +48,7 @@ impl<T: Drop, W: Drop> Single<T, W> {
         self.sending = false;
         let waker = self.waker.take();
         self.value = Some(value);
-        Ok(Due { waker })
+        Ok(Due::new(waker))
     }
 
     /// The sender is gone. Who waits is to be woken.
@@ -71,34 +59,34 @@ impl<T: Drop, W: Drop> Single<T, W> {
     {
         let SenderEnd {} = end;
         self.sending = false;
-        Due {
-            waker: self.waker.take(),
-        }
+        Due::new(self.waker.take())
     }
 
-    /// The receiver is gone: later sends are handed back. Drop the answer once the lock is given back: a value that was not received, and the waker.
-    pub fn receiver_gone(&mut self, end: ReceiverEnd) -> (Option<T>, Option<W>)
-        ensures out { (result.0 ≡ self.old.value) × (result.1 ≡ self.old.waker) }
+    /// The receiver is gone: later sends are handed back. The answer has a value that was not received, and the waker.
+    pub fn receiver_gone(&mut self, end: ReceiverEnd) -> Spare<(Option<T>, Option<W>)>
+        ensures out { result.value ≡ (self.old.value, self.old.waker) }
         ensures over { (self.new.value ≡ None) × (self.new.waker ≡ None) × (self.new.receiving ≡ false) × (self.new.sending ≡ self.old.sending) }
     {
         let ReceiverEnd {} = end;
         self.receiving = false;
-        (self.value.take(), self.waker.take())
+        Spare::new((self.value.take(), self.waker.take()))
     }
 
-    /// Receives the value, or has this waker wait for it, in place of the one before. The second part is a waker that is not needed: drop it once the lock is given back.
-    pub fn poll(&mut self, waker: Option<W>) -> (Found<T>, Option<W>)
-        ensures { Polled result.0 self.old waker self.new result.1 }
+    /// Receives the value, or has this waker wait for it, in place of the one before. `Closed` says that no value will come: the sender is gone, or the value was handed out.
+    pub fn poll(&mut self, waker: Option<W>) -> (Asked<W>, Option<T>)
+        ensures polled { Polled result.0.answer result.1 self.old waker self.new result.0.spare }
+        ensures waits { result.0.answer ≡ Answer.Waits → IsSome waker }
     {
         if let Some(value) = self.value.take() {
-            return (Found::Value(value), waker);
+            return (Asked::new(Answer::Taken, waker), Some(value));
         }
         if !self.sending {
-            return (Found::Closed, waker);
+            return (Asked::new(Answer::Closed, waker), None);
         }
-        match waker {
-            Some(waker) => (Found::Waits, mem::replace(&mut self.waker, Some(waker))),
-            None => (Found::Refused, None),
-        }
+        let asked = match waker {
+            Some(waker) => Asked::new(Answer::Waits, mem::replace(&mut self.waker, Some(waker))),
+            None => Asked::new(Answer::Refused, None),
+        };
+        (asked, None)
     }
 }

@@ -16,7 +16,7 @@ impl Yields for YieldNow {
 }
 
 impl<W: Wake> Future<W> for YieldNow {
-    ghost polled = { λ old waker answer new. (new.yielded ≡ true) × (old.yielded ≡ false → WokeAndWaits (W.woken_by_ref waker) answer) × (old.yielded ≡ true → answer ≡ Ready tt) };
+    ghost polled = { λ old waker answer new. (new.yielded ≡ true) × (old.yielded ≡ false → WokeAndWaits ((ended : W.Record) × W.woken_by_ref waker ended) answer) × (old.yielded ≡ true → answer ≡ Ready tt) };
 
     fn poll(&mut self, waker: &W) -> Poll<()> {
         if self.yielded {

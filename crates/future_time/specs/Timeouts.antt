@@ -7,7 +7,9 @@ use Rattle.future_time.specs.declared.sleep.Sleep.{Sleep}
 use Rattle.future_time.specs.declared.timeout.TimeoutError.{TimeoutError}
 use Rattle.future_time.specs.declared.timeout.TimeoutError.TheVariants.{Elapsed as IsLate, Closed as IsClosed}
 use Rattle.future_time.specs.declared.timeout.Waited.{Waited}
-use Rattle.future_time.specs.Sleeps.{SleepPolled}
+use Rattle.std.specs.declared.time.Instant.{Instant}
+use Rattle.std.specs.declared.time.Duration.{Duration}
+use Rattle.future_time.specs.Sleeps.{SleepPolled, IsAfter}
 
 module _ {T : Type 0} where
   -- what a timeout answers where its future is pending, and its timer answers this
@@ -22,17 +24,23 @@ module _ {T V : Type 0} where
   left_of Pending waited = Some waited
   left_of (Ready output) waited = None
 
-module _ {R W F T : Type 0} (polled : F → W → Poll T → F → Type 0) (cloned : W → Option W → Type 0) (woken_by_ref : W → Type 0) where
+module _ {R W E F T : Type 0} (polled : F → W → Poll T → F → Type 0) (cloned : W → Result W E → Type 0) (woken_by_ref : W → E → Type 0) where
   -- the timeout answers what the future answered, or else as its timer did, which is polled then
-  abbrev pub AfterFuture : Poll T → Waited F (Sleep R W) → W → Poll (Result T TimeoutError) → Type 0
+  abbrev pub AfterFuture : Poll T → Waited F (Sleep R W E) → W → Poll (Result T TimeoutError) → Type 0
   AfterFuture (Ready output) old waker answer = answer ≡ Ready (Ok output)
   AfterFuture Pending old waker answer = (own : Poll (Result Elapsed Closed)) × SleepPolled cloned woken_by_ref old.sleep.key.when waker own × (answer ≡ late_of own)
 
   -- the future was polled by this waker, and the timer where that is pending
-  abbrev pub BothPolled : Waited F (Sleep R W) → W → Poll (Result T TimeoutError) → Waited F (Sleep R W) → Type 0
+  abbrev pub BothPolled : Waited F (Sleep R W E) → W → Poll (Result T TimeoutError) → Waited F (Sleep R W E) → Type 0
   BothPolled old waker answer new = (own : Poll T) × polled old.future waker own new.future × AfterFuture own old waker answer × (new.sleep.key ≡ old.sleep.key)
 
   -- both parts were polled, and dropped where the timeout is over; one that was over before is pending
-  abbrev pub TimeoutPolled : Option (Waited F (Sleep R W)) → W → Poll (Result T TimeoutError) → Option (Waited F (Sleep R W)) → Type 0
+  abbrev pub TimeoutPolled : Option (Waited F (Sleep R W E)) → W → Poll (Result T TimeoutError) → Option (Waited F (Sleep R W E)) → Type 0
   TimeoutPolled None waker answer new = (answer ≡ Pending) × (new ≡ None)
-  TimeoutPolled (Some old) waker answer new = (waited : Waited F (Sleep R W)) × BothPolled old waker answer waited × (new ≡ left_of answer waited)
+  TimeoutPolled (Some old) waker answer new = (waited : Waited F (Sleep R W E)) × BothPolled old waker answer waited × (new ≡ left_of answer waited)
+
+module _ {R W E F : Type 0} where
+  -- the timeout has this future, and a sleep for so long
+  abbrev pub IsTimeout : Instant → Duration → F → Option (Waited F (Sleep R W E)) → Type 0
+  IsTimeout start duration future None = ⊥
+  IsTimeout start duration future (Some waited) = (waited.future ≡ future) × IsAfter start duration waited.sleep.key.when

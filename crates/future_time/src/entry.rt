@@ -2,6 +2,7 @@
 ghost use Rattle.std.specs.Prelude.{◌≡◌, ◌-◌, ◌*◌, ◌≤◌, IfSome};
 ghost use Rattle.std.specs.Duration.{as_nanos};
 
+use crate::shared::Unlocked;
 use std::sync::Condvar;
 use std::time::Duration;
 use task_core::Wake;
@@ -19,21 +20,52 @@ pub struct TimerKey {
     pub(crate) when: u64,
 }
 
-/// The waker of a timer that has fired, to be woken once the lock is free. It has no `Drop`: it ends in `wake`.
+/// The waker of a timer that has fired, to be woken. It has no `Drop`: it ends in `wake`.
+#[must_use]
 pub struct Due<W: Drop> {
-    pub(crate) key: usize,
-    pub(crate) waker: Option<W>,
+    key: usize,
+    waker: Option<W>,
+}
+
+impl<W: Drop> Due<W> {
+    /// The waker that was taken out of the entry of a key, if there was one.
+    pub fn new(key: usize, waker: Option<W>) -> Due<W>
+        ensures { (result.key ≡ key) × (result.waker ≡ waker) }
+    {
+        Due { key, waker }
+    }
 }
 
 impl<W: Wake> Due<W> {
-    /// Wakes the future that awaits the timer, if it was polled.
-    pub fn wake(self)
-        ensures { IfSome self.waker W.woken }
+    /// Wakes the future that awaits the timer, if it was polled. A wake is foreign code, so the lock has to be free.
+    pub fn wake(self, _unlocked: &Unlocked<'_, W>)
+        ensures { IfSome self.waker (λ waker. (ended : W.Record) × W.woken waker ended) }
     {
         let Due { key: _, waker } = self;
         if let Some(waker) = waker {
             waker.wake();
         }
+    }
+}
+
+/// A waker that is not needed, or none. It has no `Drop`: it ends in `discard`.
+#[must_use]
+pub struct Spare<W: Drop> {
+    waker: Option<W>,
+}
+
+impl<W: Drop> Spare<W> {
+    /// A waker that was taken out of a table.
+    pub fn new(waker: Option<W>) -> Spare<W>
+        ensures { result.waker ≡ waker }
+    {
+        Spare { waker }
+    }
+
+    /// Drops the waker, which is foreign code, so the lock has to be free.
+    pub fn discard(self, _unlocked: &Unlocked<'_, W>) {
+        let Spare { waker } = self;
+        drop(waker);
     }
 }
 

@@ -1,12 +1,14 @@
 //! A timer that is due again and again.
-ghost use Rattle.std.specs.Prelude.{◌≡◌, ◌+◌, ◌-◌, ◌^◌, min, IfOk};
+ghost use Rattle.std.specs.Prelude.{◌≡◌, ◌+◌, ◌*◌, ◌-◌, ◌^◌, ◌<◌, ◌≤◌, min, IfOk};
+ghost use Rattle.std.specs.Duration.{as_nanos};
 ghost use Rattle.std.specs.Arc.{arc_value};
 ghost use Rattle.future_time.specs.Sleeps.{SleepPolled};
 ghost use Rattle.future_time.specs.Ticking.{TickPolled};
 
 use crate::entry::{Elapsed, Look, TimerKey};
-use crate::sleep::{Closed, answer_of};
-use crate::ticks::ticks_of;
+use crate::looked::own_waker;
+use crate::sleep::Closed;
+use crate::ticks::{LAST_TICK, ticks_of};
 use crate::timers::{TimerError, Timers};
 use std::sync::Wait;
 use std::time::{Clock, Duration};
@@ -36,7 +38,10 @@ impl<R: Wait + Clock + Drop + Copy, W: Wake> Timers<R, W> {
     /// A timer that is due each time that `period` has passed, the first time one period after this call. The period is rounded up to whole milliseconds, and is one at least.
     ///
     /// Its memory is asked for here, and its polls need none. An error says that there is no timer.
-    pub fn interval(&self, period: Duration) -> Result<Interval<R, W>, TimerError> {
+    pub fn interval(&self, period: Duration) -> Result<Interval<R, W>, TimerError>
+        ensures period { IfOk result (λ interval. (1 ≤ interval.period) × (interval.period < LAST_TICK → as_nanos period ≤ interval.period * 1_000_000)) }
+        ensures timers { IfOk result (λ interval. arc_value interval.timers.shared ≡ arc_value self.now.shared) }
+    {
         let timers = self.try_clone().ok_or(TimerError::Refused)?;
         let period = ticks_of(period).max(1);
         let start = self.shared.ticks.tick_for(self.now()?);
@@ -51,7 +56,9 @@ impl<R: Wait + Clock + Drop + Copy, W: Wake> Timers<R, W> {
 
 impl<R: Wait + Clock + Drop + Copy, W: Wake> Interval<R, W> {
     /// A future of the next time. One that is dropped before it is ready takes no time away.
-    pub fn tick(&mut self) -> Tick<'_, R, W> {
+    pub fn tick(&mut self) -> Tick<'_, R, W>
+        ensures { result.interval.now ≡ self.old }
+    {
         Tick { interval: self }
     }
 
@@ -60,20 +67,20 @@ impl<R: Wait + Clock + Drop + Copy, W: Wake> Interval<R, W> {
         ensures { TickPolled W.cloned W.woken_by_ref self.old waker.now result self.new }
     {
         let shared = &self.timers.shared;
-        let clone = waker.try_clone();
-        let mut table = shared.table.lock(&shared.rt);
-        let (look, left) = table.poll(&self.key, clone);
-        if let Look::Over(_) = look {
+        let clone = own_waker(waker);
+        let mut unlocked = shared.unlocked();
+        let mut table = unlocked.lock(&shared.rt);
+        let looked = table.poll(&self.key, clone);
+        if let Look::Over(_) = looked.look() {
             let next = self.key.when.saturating_add(self.period);
             let (before, notice) = table.set(&mut self.key, next);
             drop(table);
             notice.tell(&shared.earlier);
-            drop(before);
+            before.discard(&unlocked);
         } else {
             drop(table);
         }
-        drop(left);
-        answer_of(look, waker)
+        looked.settle(waker, &unlocked)
     }
 }
 

@@ -1,23 +1,27 @@
 //! Timers for futures of every executor: `sleep`, `sleep_until`, `interval` and `timeout`.
 //! It stands on the traits of `task_core`, on the wheel of the kit's `futures`, and on `slab` and `thiserror`.
 //! A user makes `Timers`, has a thread drive them by `run` or calls `fire`, and makes the futures by their methods.
-//! `TimerTable` with what it hands out, `Ticks` and `Waited` are public only to carry the claims.
+//! `TimerTable` with what it takes and hands out, its lock, `Ticks` and `Waited` are public only to carry the claims.
 //! The page is README.md.
 #![tactic(auto)]
 
 mod entry;
 mod interval;
+mod looked;
 mod order;
+mod shared;
 mod sleep;
 mod table;
 mod ticks;
 mod timeout;
 mod timers;
 
-pub use entry::{Closing, Due, Elapsed, Entry, Look, Notice, TimerKey};
+pub use entry::{Closing, Due, Elapsed, Entry, Look, Notice, Spare, TimerKey};
 pub use interval::{Interval, Tick};
+pub use looked::Looked;
+pub use shared::Unlocked;
 pub use sleep::{Closed, Sleep};
-pub use table::TimerTable;
-pub use ticks::Ticks;
+pub use table::{Ended, TimerTable};
+pub use ticks::{Firing, Ticks};
 pub use timeout::{Refused, Timeout, TimeoutError, Waited};
 pub use timers::{TimerError, Timers};

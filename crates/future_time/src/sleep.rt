@@ -2,9 +2,10 @@
 ghost use Rattle.std.specs.Prelude.{◌≡◌, ◌+◌, ◌*◌, ◌<◌, ◌≤◌, IfOk};
 ghost use Rattle.std.specs.Arc.{arc_value};
 ghost use Rattle.std.specs.Time.{instant_nanos};
-ghost use Rattle.future_time.specs.Sleeps.{SleepPolled, IsAnswer};
+ghost use Rattle.future_time.specs.Sleeps.{SleepPolled, IsAfter};
 
-use crate::entry::{Elapsed, Look, TimerKey};
+use crate::entry::{Elapsed, TimerKey};
+use crate::looked::own_waker;
 use crate::ticks::LAST_TICK;
 use crate::timers::{TimerError, Timers};
 use std::io;
@@ -37,28 +38,17 @@ impl<R: Wait + Clock + Drop + Copy, W: Wake> Drop for Sleep<R, W> {
     }
 }
 
-// What a poll of a timer by this waker answers. Where no clone of the waker was to be had, it is woken, so that the future is polled again.
-pub(crate) fn answer_of<W: Wake>(look: Look, waker: &W) -> Poll<Result<Elapsed, Closed>>
-    ensures { IsAnswer (W.woken_by_ref waker.now) look result }
-{
-    match look {
-        Look::Over(elapsed) => Poll::Ready(Ok(elapsed)),
-        Look::Closed => Poll::Ready(Err(Closed)),
-        Look::Waits => Poll::Pending,
-        Look::Unregistered => {
-            waker.wake_by_ref();
-            Poll::Pending
-        }
-    }
-}
-
 impl<R: Wait + Clock + Drop + Copy, W: Wake> Timers<R, W> {
     /// A future that is ready once so long a time is over, counted from this call, and the timers were fired.
     ///
     /// Its memory is asked for here, and its polls need none. An error says that there is no timer.
-    pub fn sleep(&self, duration: Duration) -> Result<Sleep<R, W>, TimerError> {
-        let deadline = self.now()?.checked_add(duration);
-        self.sleep_until(deadline.ok_or(TimerError::Clock)?)
+    pub fn sleep(&self, duration: Duration) -> Result<Sleep<R, W>, TimerError>
+        ensures after { IfOk result (λ sleep. IsAfter (arc_value self.now.shared).ticks.start duration sleep.key.when) }
+        ensures timers { IfOk result (λ sleep. arc_value sleep.timers.shared ≡ arc_value self.now.shared) }
+    {
+        let now = self.now()?;
+        let deadline = now.checked_add(duration).ok_or(TimerError::Clock)?;
+        self.sleep_until(deadline)
     }
 
     /// A future that is ready once this instant has come, and the timers were fired. It has to be of the clock of the timers.
@@ -84,9 +74,9 @@ impl<R: Wait + Clock + Drop + Copy, W: Wake> Future<W> for Sleep<R, W> {
 
     fn poll(&mut self, waker: &W) -> Poll<Result<Elapsed, Closed>> {
         let shared = &self.timers.shared;
-        let clone = waker.try_clone();
-        let (look, left) = shared.table.lock(&shared.rt).poll(&self.key, clone);
-        drop(left);
-        answer_of(look, waker)
+        let clone = own_waker(waker);
+        let mut unlocked = shared.unlocked();
+        let looked = unlocked.lock(&shared.rt).poll(&self.key, clone);
+        looked.settle(waker, &unlocked)
     }
 }

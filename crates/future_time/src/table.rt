@@ -1,16 +1,24 @@
 //! What timers keep under their lock: an entry for each timer, its deadline in a wheel, and the time that was reached.
-ghost use Rattle.std.specs.Prelude.{◌≡◌, ◌≢◌, ℕ, ◌+◌, ◌-◌, ◌^◌, ◌≤◌, ◌<◌, max, true, false, None, Some, IfOk, OnErr, IfSome, IfNone, IsSome, unwrap_or};
+ghost use Rattle.std.specs.Prelude.{◌≡◌, ◌≢◌, ℕ, ◌+◌, ◌-◌, ◌^◌, ◌≤◌, ◌<◌, ◌↔◌, max, true, false, None, Some, IfOk, OnErr, IfSome, IfNone, IsSome, unwrap_or};
 ghost use Rattle.slab.specs.Slab.{get, slab_len, Updates, SameValues};
 ghost use Rattle.futures.specs.LinkedLists.Wheel.{deadline_of, key_limit, EachDeadline, SameDeadlines, Sets};
 ghost use Rattle.future_time.specs.Orders.{IsNext};
 ghost use Rattle.future_time.specs.Tables.{when_of, waker_of, IsSeen, TakesWaker};
 
-use crate::entry::{Closing, Due, Elapsed, Entry, Look, Notice, TimerKey};
+use crate::entry::{Closing, Due, Elapsed, Entry, Look, Notice, Spare, TimerKey};
+use crate::looked::Looked;
 use crate::order::next_key;
-use crate::ticks::LAST_TICK;
+use crate::ticks::{Firing, LAST_TICK};
 use futures::util::wheel::Wheel;
 use slab::Slab;
 use std::alloc::{AllocError, Global};
+
+/// Shows that timers were closed: nothing but their table makes it.
+#[derive(Clone, Copy, Debug, PartialEq, Eq)]
+pub struct Ended {
+    closed: bool,
+    ghost by_close: { closed ≡ true },
+}
 
 /// Timers under keys. Times are ticks, from 0 to 2^64 - 1.
 ///
@@ -67,24 +75,34 @@ impl<W: Drop> TimerTable<W> {
             Some(entry) => entry.waker.take(),
             None => None,
         };
-        Some(Due { key, waker })
+        Some(Due::new(key, waker))
     }
 
-    /// Fires one timer that is due at `now`, the one that comes due first. Call it until it answers `None`, and wake each.
+    /// Fires one timer that is due, the one that comes due first. `None` says that none is due, and ends the duty.
     ///
-    /// A time before one that was given earlier counts as that one.
-    pub fn fire(&mut self, now: u64) -> Option<Due<W>>
-        ensures first { IfSome result (λ due. IsNext self.old.wheel now due.key) }
-        ensures once { IfSome result (λ due. Sets self.old.wheel self.new.wheel due.key None) }
-        ensures waker { IfSome result (λ due. due.waker ≡ waker_of (get self.old.entries due.key)) }
-        ensures taken { IfSome result (λ due. TakesWaker self.old.entries self.new.entries due.key) }
-        ensures none { IfNone result (EachDeadline self.new.wheel (λ when. now < when)) }
+    /// A tick before one that was given earlier counts as that one.
+    pub fn fire(&mut self, firing: Firing) -> Option<(Due<W>, Firing)>
+        ensures first { IfSome result (λ fired. IsNext self.old.wheel firing.tick fired.0.key) }
+        ensures once { IfSome result (λ fired. Sets self.old.wheel self.new.wheel fired.0.key None) }
+        ensures waker { IfSome result (λ fired. fired.0.waker ≡ waker_of (get self.old.entries fired.0.key)) }
+        ensures taken { IfSome result (λ fired. TakesWaker self.old.entries self.new.entries fired.0.key) }
+        ensures rest { IfSome result (λ fired. fired.1 ≡ firing) }
+        ensures none { IfNone result (EachDeadline self.new.wheel (λ when. firing.tick < when)) }
         ensures kept { IfNone result (SameDeadlines self.old.wheel self.new.wheel × (self.new.entries ≡ self.old.entries)) }
-        ensures reached { self.new.reached ≡ max self.old.reached now }
+        ensures reached { self.new.reached ≡ max self.old.reached firing.tick }
         ensures closed { self.new.closed ≡ self.old.closed }
     {
-        self.reached = self.reached.max(now);
-        self.take_due(now)
+        self.reached = self.reached.max(firing.tick);
+        let due = self.take_due(firing.tick);
+        let Some(due) = due else {
+            let Firing {
+                tick: _,
+                start: _,
+                now: _,
+            } = firing;
+            return None;
+        };
+        Some((due, firing))
     }
 
     /// Closes the timers: none that is not due yet will fire. The drivers have to be told, and each timer that waits is to be released.
@@ -115,11 +133,16 @@ impl<W: Drop> TimerTable<W> {
         Some((due, closing))
     }
 
-    /// Whether the timers are closed.
-    pub fn is_closed(&self) -> bool
-        ensures { result ≡ self.now.closed }
+    /// Shows that the timers are closed. `None` says that they are not.
+    pub fn ended(&self) -> Option<Ended>
+        ensures { IsSome result ↔ (self.now.closed ≡ true) }
     {
-        self.closed
+        if !self.closed {
+            return None;
+        }
+        Some(Ended {
+            closed: self.closed,
+        })
     }
 
     /// How many timers there are: those that wait, and those that have fired and are not removed yet.
@@ -196,9 +219,9 @@ impl<W: Drop> TimerTable<W> {
     }
 
     /// Sets a timer again, for `when`, without asking for memory. Answers the waker that it had.
-    pub fn set(&mut self, key: &mut TimerKey, when: u64) -> (Option<W>, Notice)
+    pub fn set(&mut self, key: &mut TimerKey, when: u64) -> (Spare<W>, Notice)
         ensures entry { get self.old.entries key.old.key ≢ None → Updates self.old.entries self.new.entries key.old.key (Some (record { when = when; waker = None })) }
-        ensures waker { result.0 ≡ waker_of (get self.old.entries key.old.key) }
+        ensures waker { result.0.waker ≡ waker_of (get self.old.entries key.old.key) }
         ensures waits { get self.old.entries key.old.key ≢ None → self.old.closed ≡ false → self.old.reached < when → Sets self.old.wheel self.new.wheel key.old.key (Some when) }
         ensures key { key.new ≡ record key.old { when = when } }
         ensures told { result.1.is_due ≡ false → self.new.rests_until ≡ self.old.rests_until }
@@ -208,7 +231,7 @@ impl<W: Drop> TimerTable<W> {
         let waits = self.is_to_wait(when);
         key.when = when;
         let Some(entry) = self.entries.get_mut(key.key) else {
-            return (None, notice);
+            return (Spare::new(None), notice);
         };
         let waker = entry.waker.take();
         entry.when = when;
@@ -217,27 +240,30 @@ impl<W: Drop> TimerTable<W> {
         } else {
             self.wheel.remove(key.key);
         }
-        (waker, notice)
+        (Spare::new(waker), notice)
     }
 
     /// Ends a timer: it never fires, and its room is free. Answers the waker that it had.
-    pub fn remove(&mut self, key: TimerKey) -> Option<W>
+    pub fn remove(&mut self, key: TimerKey) -> Spare<W>
         ensures gone { Updates self.old.entries self.new.entries key.key None }
         ensures disarmed { Sets self.old.wheel self.new.wheel key.key None }
-        ensures waker { result ≡ waker_of (get self.old.entries key.key) }
+        ensures waker { result.waker ≡ waker_of (get self.old.entries key.key) }
         ensures reached { (self.new.reached ≡ self.old.reached) × (self.new.closed ≡ self.old.closed) }
     {
         let TimerKey { key, when: _ } = key;
         self.wheel.remove(key);
-        let entry = self.entries.try_remove(key)?;
-        entry.waker
+        let waker = match self.entries.try_remove(key) {
+            Some(entry) => entry.waker,
+            None => None,
+        };
+        Spare::new(waker)
     }
 
-    /// Looks at a timer for its future. One that waits has `waker` then; else `waker` is handed back. Beside the answer stands what the caller is to drop. A key of other timers finds none, which counts as closed.
-    pub fn poll(&mut self, key: &TimerKey, waker: Option<W>) -> (Look, Option<W>)
-        ensures seen { IsSeen self.old.reached self.old.closed (get self.old.entries key.now.key) key.now.when waker result.0 }
-        ensures registered { result.0 ≡ Look.Waits → waker_of (get self.new.entries key.now.key) ≡ waker }
-        ensures armed { result.0 ≡ Look.Waits → deadline_of self.new.wheel key.now.key ≡ when_of (get self.new.entries key.now.key) }
+    /// Looks at a timer for its future. One that waits has `waker` then. A key of other timers finds none, which counts as closed.
+    pub fn poll(&mut self, key: &TimerKey, waker: Option<W>) -> Looked<W>
+        ensures seen { IsSeen self.old.reached self.old.closed (get self.old.entries key.now.key) key.now.when waker result.look }
+        ensures registered { result.look ≡ Look.Waits → waker_of (get self.new.entries key.now.key) ≡ waker }
+        ensures armed { result.look ≡ Look.Waits → deadline_of self.new.wheel key.now.key ≡ when_of (get self.new.entries key.now.key) }
         ensures times { (other : ℕ) → when_of (get self.new.entries other) ≡ when_of (get self.old.entries other) }
         ensures others { (other : ℕ) → other ≢ key.now.key → get self.new.entries other ≡ get self.old.entries other }
         ensures kept { (self.new.wheel ≡ self.old.wheel) × (self.new.reached ≡ self.old.reached) × (self.new.closed ≡ self.old.closed) × (self.new.rests_until ≡ self.old.rests_until) }
@@ -245,21 +271,21 @@ impl<W: Drop> TimerTable<W> {
         let reached = self.reached;
         let closed = self.closed;
         let Some(entry) = self.entries.get_mut(key.key) else {
-            return (Look::Closed, waker);
+            return Looked::new(Look::Closed, waker);
         };
         let when = key.when;
         if entry.when != when {
-            return (Look::Closed, waker);
+            return Looked::new(Look::Closed, waker);
         }
         if when <= reached {
-            return (Look::Over(Elapsed { when, reached }), waker);
+            return Looked::new(Look::Over(Elapsed { when, reached }), waker);
         }
         if closed {
-            return (Look::Closed, waker);
+            return Looked::new(Look::Closed, waker);
         }
         match waker {
-            Some(waker) => (Look::Waits, entry.waker.replace(waker)),
-            None => (Look::Unregistered, None),
+            Some(waker) => Looked::new(Look::Waits, entry.waker.replace(waker)),
+            None => Looked::new(Look::Unregistered, None),
         }
     }
 }

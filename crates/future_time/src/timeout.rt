@@ -1,7 +1,8 @@
 //! A future that is awaited for so long at most.
 ghost use Rattle.std.specs.Prelude.{◌≡◌, IfOk, IfErr};
 ghost use Rattle.task_core.specs.Poll.{IfReady};
-ghost use Rattle.future_time.specs.Timeouts.{BothPolled, TimeoutPolled};
+ghost use Rattle.std.specs.Arc.{arc_value};
+ghost use Rattle.future_time.specs.Timeouts.{BothPolled, TimeoutPolled, IsTimeout};
 
 use crate::entry::Elapsed;
 use crate::sleep::{Closed, Sleep};
@@ -83,6 +84,7 @@ impl<R: Wait + Clock + Drop + Copy, W: Wake> Timers<R, W> {
         duration: Duration,
         future: F,
     ) -> Result<Timeout<R, W, F>, Refused<F>>
+        ensures waits { IfOk result (λ timeout. IsTimeout (arc_value self.now.shared).ticks.start duration future timeout.waited) }
         ensures future { IfErr result (λ refused. refused.future ≡ future) }
     {
         match self.sleep(duration) {

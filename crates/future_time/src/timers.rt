@@ -1,14 +1,14 @@
 //! The timers that threads share, and how they are driven.
-ghost use Rattle.std.specs.Prelude.{◌≡◌, ◌+◌, ◌*◌, ◌<◌, ◌≤◌, IfOk, IfSome};
+ghost use Rattle.std.specs.Prelude.{◌≡◌, IfOk, IfSome};
 ghost use Rattle.std.specs.Arc.{arc_value};
-ghost use Rattle.std.specs.Time.{instant_nanos};
 
-use crate::entry::{Due, TimerKey};
-use crate::table::TimerTable;
-use crate::ticks::Ticks;
+use crate::entry::TimerKey;
+use crate::shared::Shared;
+use crate::table::{Ended, TimerTable};
+use crate::ticks::{Firing, Ticks};
 use std::alloc::{AllocError, Global};
 use std::io;
-use std::sync::{Arc, Condvar, Mutex, Wait};
+use std::sync::{Arc, Wait};
 use std::time::{Clock, Instant};
 use task_core::Wake;
 use thiserror::Error;
@@ -48,15 +48,6 @@ impl From<AllocError> for TimerError {
     }
 }
 
-// What the timers, their futures and their drivers have in common.
-#[derive(Drop)]
-pub(crate) struct Shared<R: Wait + Clock + Drop + Copy, W: Wake> {
-    pub(crate) rt: R,
-    pub(crate) ticks: Ticks,
-    pub(crate) table: Mutex<TimerTable<W>>,
-    pub(crate) earlier: Condvar,
-}
-
 /// Timers for futures that are polled by wakers of type `W`. All owners share one table, under one lock.
 ///
 /// They fire only while they are driven: by a thread in `run`, or by a worker that calls `fire`. A tick is a millisecond.
@@ -70,12 +61,7 @@ impl<R: Wait + Clock + Drop + Copy, W: Wake> Timers<R, W> {
     pub fn new(rt: R, alloc: Global) -> Result<Timers<R, W>, TimerError> {
         let start = Instant::now(&rt).ok().ok_or(TimerError::Clock)?;
         let table = TimerTable::new(alloc)?;
-        let shared = Shared {
-            rt,
-            ticks: Ticks { start },
-            table: Mutex::new(table),
-            earlier: Condvar::new(),
-        };
+        let shared = Shared::new(rt, Ticks { start }, table);
         let shared = Arc::new(alloc, shared).ok().ok_or(TimerError::Refused)?;
         Ok(Timers { shared })
     }
@@ -97,7 +83,7 @@ impl<R: Wait + Clock + Drop + Copy, W: Wake> Timers<R, W> {
     pub(crate) fn add(&self, when: u64) -> Result<TimerKey, TimerError>
         ensures { IfOk result (λ key. key.when ≡ when) }
     {
-        let made = self.shared.table.lock(&self.shared.rt).add(when);
+        let made = self.shared.unlocked().lock(&self.shared.rt).add(when);
         let (key, notice) = made?;
         notice.tell(&self.shared.earlier);
         Ok(key)
@@ -105,54 +91,60 @@ impl<R: Wait + Clock + Drop + Copy, W: Wake> Timers<R, W> {
 
     // Ends a timer, and drops the waker that it had.
     pub(crate) fn remove(&self, key: TimerKey) {
-        let waker = self.shared.table.lock(&self.shared.rt).remove(key);
-        drop(waker);
+        let mut unlocked = self.shared.unlocked();
+        let spare = unlocked.lock(&self.shared.rt).remove(key);
+        spare.discard(&unlocked);
     }
 
-    // Wakes the future of each timer that is due at this tick.
-    fn fire_due(&self, now: u64) {
+    // Wakes the future of each timer that is due.
+    fn fire_due(&self, begun: Firing) {
+        let mut unlocked = self.shared.unlocked();
+        let mut firing = begun;
         for _ in self.shared.rt.forever() {
-            let due = self.shared.table.lock(&self.shared.rt).fire(now);
-            let Some(due) = due else {
+            let fired = unlocked.lock(&self.shared.rt).fire(firing);
+            let Some((due, rest)) = fired else {
                 return;
             };
-            due.wake();
+            due.wake(&unlocked);
+            firing = rest;
         }
+        unreachable!()
     }
 
     /// Fires each timer that is due at `now`, in the order of their ticks, and answers the instant at which to call this next: no timer is due before it. `None` where no timer waits.
     ///
     /// A timer that is made after this call may be due sooner.
     pub fn fire(&self, now: Instant) -> Option<Instant> {
-        self.fire_due(self.shared.ticks.tick_at(now));
+        self.fire_due(self.shared.ticks.firing(now));
         self.next_deadline()
     }
 
     /// The instant at which to call `fire` next: no timer is due before it. `None` where no timer waits.
     pub fn next_deadline(&self) -> Option<Instant> {
-        let next = self.shared.table.lock(&self.shared.rt).next_deadline();
+        let next = self.shared.unlocked().lock(&self.shared.rt).next_deadline();
         self.shared.ticks.instant_of(next?)
     }
 
     /// Drives the timers on this thread until they are closed: sleeps until the next deadline, or until a timer is made that is due sooner.
     ///
-    /// An error says that the clock could not be read: these timers are not driven by this call any more.
-    pub fn run(&self) -> Result<(), TimerError> {
+    /// `Ok` shows that they were closed. An error says that the clock could not be read: these timers are not driven by this call any more.
+    pub fn run(&self) -> Result<Ended, TimerError> {
         for _ in self.shared.rt.forever() {
             let now = self.now()?;
-            self.fire_due(self.shared.ticks.tick_at(now));
-            if self.rest(now) {
-                return Ok(());
+            self.fire_due(self.shared.ticks.firing(now));
+            if let Some(ended) = self.rest(now) {
+                return Ok(ended);
             }
         }
         unreachable!()
     }
 
-    // Sleeps until the next deadline, or until it is told of an earlier one. True says that the timers are closed.
-    fn rest(&self, now: Instant) -> bool {
-        let mut table = self.shared.table.lock(&self.shared.rt);
-        if table.is_closed() {
-            return true;
+    // Sleeps until the next deadline, or until it is told of an earlier one; not where the timers are closed.
+    fn rest(&self, now: Instant) -> Option<Ended> {
+        let mut unlocked = self.shared.unlocked();
+        let mut table = unlocked.lock(&self.shared.rt);
+        if let Some(ended) = table.ended() {
+            return Some(ended);
         }
         match table.rest() {
             Some(next) => {
@@ -165,20 +157,21 @@ impl<R: Wait + Clock + Drop + Copy, W: Wake> Timers<R, W> {
                 self.shared.earlier.wait(&self.shared.rt, table);
             }
         }
-        false
+        None
     }
 
     /// Closes the timers: each future that still awaits one is woken, and answers `Closed`, as do those that are made from now on. `run` returns.
     pub fn close(&self) {
-        let (closing, notice) = self.shared.table.lock(&self.shared.rt).close();
+        let mut unlocked = self.shared.unlocked();
+        let (closing, notice) = unlocked.lock(&self.shared.rt).close();
         notice.tell(&self.shared.earlier);
         let mut closing = closing;
         for _ in self.shared.rt.forever() {
-            let released = self.shared.table.lock(&self.shared.rt).release(closing);
+            let released = unlocked.lock(&self.shared.rt).release(closing);
             let Some((due, rest)) = released else {
                 return;
             };
-            due.wake();
+            due.wake(&unlocked);
             closing = rest;
         }
         unreachable!()
@@ -186,6 +179,6 @@ impl<R: Wait + Clock + Drop + Copy, W: Wake> Timers<R, W> {
 
     /// How many timers there are: one for each future of these timers that is there.
     pub fn len(&self) -> usize {
-        self.shared.table.lock(&self.shared.rt).len()
+        self.shared.unlocked().lock(&self.shared.rt).len()
     }
 }

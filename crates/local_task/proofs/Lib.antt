@@ -1,1 +1,2 @@
 pub mod LocalSound
+pub mod Registered

@@ -25,6 +25,7 @@ may_be_called Detach t = t.has_task
 may_be_called (Settle f polled) t = is_started t.phase
 may_be_called (PollTask clone same) t = t.has_task
 
+-- what a `start` hands out, and the task after it, whichever way it went
 abbrev pub effect_of_start : {F T A : Type 0} → Started F T A → Effect F T A
 effect_of_start (IsPolled effect) = effect
 effect_of_start (IsEnded effect) = effect
@@ -42,11 +43,12 @@ effect_of_call limit Detach t = detaches t
 effect_of_call limit (Settle f polled) t = settles f polled t
 effect_of_call limit (PollTask clone same) t = (if is_done t.phase then claims same t else registers clone t).effect
 
--- the task after the calls, the newest first, from a new one
+-- the task after one call more; None where it may not be made
 abbrev pub then_called : {F T A : Type 0} → ℕ → Call F T A → Option (Local F T A) → Option (Local F T A)
 then_called limit call None = None
 then_called limit call (Some t) = if may_be_called call t then Some ((effect_of_call limit call t).task) else None
 
+-- the task after the calls, the newest first, from a new one
 abbrev pub all_called : {F T A : Type 0} → ℕ → F → List (Call F T A) → Option (Local F T A)
 all_called limit f [] = Some (opening_task f)
 all_called limit f (call ∷ earlier) = then_called limit call (all_called limit f earlier)
@@ -57,6 +59,7 @@ has_future Idle = true
 has_future Queued = true
 has_future _ = false
 
+-- no Runnable exists, no run polls it, and it is not done
 abbrev pub is_idle : Phase → Bool
 is_idle Idle = true
 is_idle _ = false

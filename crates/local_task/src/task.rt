@@ -497,7 +497,7 @@ impl<F: Drop, T: Drop, M, A: Wake> LocalTask<F, T, M, A> {
         ensures not_done { Registers (A.cloned awaiter.now) self.old.task (answered_of self.new.task result) }
         ensures metadata { self.new.metadata ≡ self.old.metadata }
     {
-        let Some(clone) = awaiter.try_clone() else {
+        let Ok(clone) = awaiter.try_clone() else {
             return (TaskPoll::Refused, Settled::nothing());
         };
         let mut settled = Settled::nothing();

@@ -1,13 +1,11 @@
-//! The handles of the task of a script, and the calls on them.
+//! The handles of the task of a script, and the calls on them. A handle is taken out for each call, so that no lock is held while it is made.
 
-use crate::log::Log;
 use crate::script::{Call, Way, Word};
+use crate::stage::Stage;
 use crate::values::{Awaiter, Metadata, Output, Scheduler, ScriptFuture};
 use async_task::{Builder, Cancel, FallibleTask, Runnable, Task, TaskClosed, TaskPoll, TaskWaker};
 use std::alloc::{AllocError, Global};
-use std::cell::Cell;
-use std::rc::Rc;
-use std::sync::Wait;
+use std::sync::{Arc, Mutex, Wait};
 
 /// A Runnable with its surroundings.
 pub type CarriedRunnable<'x, R> = Runnable<
@@ -47,43 +45,74 @@ enum HeldTask<R: Wait + Drop + Copy> {
 /// The handles of a task, which are its surroundings too. They are kept without surroundings.
 #[derive(Drop)]
 pub struct Handles<R: Wait + Drop + Copy> {
+    rt: R,
     alloc: Global,
-    log: Rc<Log>,
+    stage: Arc<Stage>,
     way: Way,
     polls: Vec<Word>,
     awaiters: (Awaiter, Awaiter),
-    runnable: Cell<Option<HeldRunnable<R>>>,
-    wakers: Cell<Vec<HeldWaker<R>>>,
-    task: Cell<Option<HeldTask<R>>>,
+    runnable: Mutex<Option<HeldRunnable<R>>>,
+    wakers: Mutex<Vec<HeldWaker<R>>>,
+    task: Mutex<Option<HeldTask<R>>>,
 }
 
 impl<R: Wait + Drop + Copy> Handles<R> {
-    /// No handles yet. `way` and `polls` are those of a script.
+    /// No handles yet, of a task that notes on this stage. `way` and `polls` are those of a script.
     pub fn new(
+        rt: R,
         alloc: Global,
-        log: Rc<Log>,
+        stage: Arc<Stage>,
         way: Way,
         polls: Vec<Word>,
     ) -> Result<Handles<R>, AllocError> {
-        let awaiters = (Awaiter::new(0, log.clone()?), Awaiter::new(1, log.clone()?));
+        let awaiters = (
+            Awaiter::new(0, Arc::try_clone(&stage)?),
+            Awaiter::new(1, Arc::try_clone(&stage)?),
+        );
         Ok(Handles {
+            rt,
             alloc,
-            log,
+            stage,
             way,
             polls,
             awaiters,
-            runnable: Cell::new(None),
-            wakers: Cell::new(Vec::new(alloc)),
-            task: Cell::new(None),
+            runnable: Mutex::new(None),
+            wakers: Mutex::new(Vec::new(alloc)),
+            task: Mutex::new(None),
         })
     }
 
-    /// Spawns the task, and keeps its Runnable and its Task.
-    pub fn spawn(&self, rt: R) -> Result<(), AllocError> {
-        let future = ScriptFuture::new(self.log.clone()?);
-        let schedule = Scheduler::new(self.log.clone()?);
-        let builder = Builder::new().metadata(Metadata::new(self.log.clone()?));
-        let spawned = builder.spawn(rt, self.alloc, |_| future, schedule, self);
+    /// Spawns the task, makes the calls of a script, and drops all handles that are left.
+    pub fn play(&self, calls: &[Call]) -> Result<(), AllocError> {
+        self.spawn()?;
+        for call in calls {
+            self.call_outside(*call);
+        }
+        self.end();
+        Ok(())
+    }
+
+    /// Makes the calls inside foreign code that the thread of this number is asked for, until the script has ended.
+    pub fn serve(&self, number: usize) {
+        for _ in self.rt.forever() {
+            let Some(calls) = self.stage.next(&self.rt, number) else {
+                return;
+            };
+            self.stage.log.begin("inside");
+            for call in calls.iter() {
+                self.call_outside(*call);
+            }
+            self.stage.log.end("");
+            self.stage.finish(number);
+        }
+    }
+
+    // Spawns the task, and keeps its Runnable and its Task.
+    fn spawn(&self) -> Result<(), AllocError> {
+        let future = ScriptFuture::new(Arc::try_clone(&self.stage)?);
+        let schedule = Scheduler::new(Arc::try_clone(&self.stage)?);
+        let builder = Builder::new().metadata(Metadata::new(Arc::try_clone(&self.stage)?));
+        let spawned = builder.spawn(self.rt, self.alloc, |_| future, schedule, self);
         let (runnable, task): (CarriedRunnable<'_, R>, CarriedTask<'_, R>) = spawned.map_err(
             |_| AllocError,
         )?;
@@ -97,7 +126,7 @@ impl<R: Wait + Drop + Copy> Handles<R> {
         match self.way {
             Way::Keeps => self.keep_runnable(runnable),
             Way::Shows => {
-                self.log.show(&runnable);
+                self.stage.log.show(&runnable);
                 self.keep_runnable(runnable);
             }
             Way::Drops => drop(runnable),
@@ -109,7 +138,7 @@ impl<R: Wait + Drop + Copy> Handles<R> {
         for word in self.polls.iter().skip(*next) {
             *next = next.saturating_add(1);
             match word {
-                Word::Polled | Word::Pending => return false,
+                Word::Polled | Word::Pending | Word::Inside(_) | Word::Done => return false,
                 Word::Ready => return true,
                 Word::Call(Call::Keep) => self.keep_clone("keep", lent),
                 Word::Call(Call::WakeLent) => self.wake_by("wake_lent", lent),
@@ -119,26 +148,28 @@ impl<R: Wait + Drop + Copy> Handles<R> {
         false
     }
 
-    /// A call that is made outside of a poll.
-    pub fn call_outside(&self, call: Call) {
+    // A call that is made outside of a poll.
+    fn call_outside(&self, call: Call) {
         match call {
             Call::Run => self.run(),
             Call::Schedule => self.schedule(),
-            Call::DropRunnable => self.drop_runnable(),
+            Call::DropRunnable => {
+                self.drop_runnable();
+            }
             Call::Waker => self.waker(),
             _ => self.call(call),
         }
     }
 
-    /// Drops all handles that are left.
-    pub fn end(&self) {
-        self.log.begin("end");
-        for _ in 0..self.wakers() {
-            self.drop_waker();
+    // Drops all handles that are left, also those that come meanwhile.
+    fn end(&self) {
+        self.stage.log.begin("end");
+        for _ in self.rt.forever() {
+            if !(self.drop_waker() || self.drop_task() || self.drop_runnable()) {
+                break;
+            }
         }
-        self.drop_task();
-        self.drop_runnable();
-        self.log.end("");
+        self.stage.log.end("");
     }
 
     // A call that may be made inside a poll too.
@@ -147,12 +178,16 @@ impl<R: Wait + Drop + Copy> Handles<R> {
             Call::Wake => self.wake(),
             Call::WakeByRef => self.wake_by_ref(),
             Call::CloneWaker => self.clone_waker(),
-            Call::DropWaker => self.drop_waker(),
+            Call::DropWaker => {
+                self.drop_waker();
+            }
             Call::Poll(number) => self.poll(number),
             Call::Fallible => self.fallible(),
             Call::Cancel => self.cancel(),
             Call::Detach => self.detach(),
-            Call::DropTask => self.drop_task(),
+            Call::DropTask => {
+                self.drop_task();
+            }
             Call::IsFinished => self.is_finished(),
             Call::Show => self.show(),
             _ => {}
@@ -163,11 +198,11 @@ impl<R: Wait + Drop + Copy> Handles<R> {
 /// The calls on the Runnable.
 impl<R: Wait + Drop + Copy> Handles<R> {
     fn keep_runnable<'x>(&'x self, runnable: CarriedRunnable<'x, R>) {
-        self.runnable.set(Some(runnable.with_around(())));
+        *self.runnable.lock(&self.rt) = Some(runnable.with_around(()));
     }
 
     fn runnable(&self) -> Option<CarriedRunnable<'_, R>> {
-        let held = self.runnable.replace(None)?;
+        let held = self.runnable.lock(&self.rt).take()?;
         Some(held.with_around(self))
     }
 
@@ -175,88 +210,77 @@ impl<R: Wait + Drop + Copy> Handles<R> {
         let Some(runnable) = self.runnable() else {
             return;
         };
-        self.log.begin("run");
-        let woken = runnable.run();
-        self.log.end_with(woken);
+        self.stage.log.begin("run");
+        let (woken, _) = runnable.run();
+        self.stage.log.end_with(woken);
     }
 
     fn schedule(&self) {
         let Some(runnable) = self.runnable() else {
             return;
         };
-        self.log.begin("schedule");
+        self.stage.log.begin("schedule");
         runnable.schedule();
-        self.log.end("");
+        self.stage.log.end("");
     }
 
-    fn drop_runnable(&self) {
+    fn drop_runnable(&self) -> bool {
         let Some(runnable) = self.runnable() else {
-            return;
+            return false;
         };
-        self.log.begin("drop_runnable");
+        self.stage.log.begin("drop_runnable");
         drop(runnable);
-        self.log.end("");
+        self.stage.log.end("");
+        true
     }
 
     fn waker(&self) {
         let Some(runnable) = self.runnable() else {
             return;
         };
-        self.log.note("waker");
-        self.keep_waker(runnable.waker());
+        self.stage.log.note("waker");
+        self.keep_waker(runnable.waker().ok());
         self.keep_runnable(runnable);
     }
 }
 
 /// The calls on wakers.
 impl<R: Wait + Drop + Copy> Handles<R> {
-    // How many wakers are kept.
-    fn wakers(&self) -> usize {
-        let kept = self.wakers.replace(Vec::new(self.alloc));
-        let count = kept.len();
-        self.wakers.set(kept);
-        count
-    }
-
     fn keep_waker<'x>(&'x self, given: Option<CarriedWaker<'x, R>>) {
         let Some(waker) = given else {
-            self.log.note("refused");
+            self.stage.log.note("refused");
             return;
         };
-        let mut kept = self.wakers.replace(Vec::new(self.alloc));
-        let pushed = kept.push(waker.with_around(()));
-        self.wakers.set(kept);
+        let pushed = self.wakers.lock(&self.rt).push(waker.with_around(()));
         if pushed.is_err() {
-            self.log.lose();
+            self.stage.log.lose();
         }
     }
 
     // The waker that was kept last.
     fn last_waker(&self) -> Option<CarriedWaker<'_, R>> {
-        let mut kept = self.wakers.replace(Vec::new(self.alloc));
-        let last = kept.pop();
-        self.wakers.set(kept);
+        let last = self.wakers.lock(&self.rt).pop();
         Some(last?.with_around(self))
     }
 
     fn keep_clone<'x>(&'x self, call: &str, waker: &CarriedWaker<'x, R>) {
-        self.log.note(call);
-        self.keep_waker(waker.try_clone());
+        self.stage.log.note(call);
+        self.keep_waker(waker.try_clone().ok());
     }
 
     fn wake_by<'x>(&'x self, call: &str, waker: &CarriedWaker<'x, R>) {
-        self.log.begin(call);
+        self.stage.log.begin(call);
         waker.wake_by_ref();
-        self.log.end("");
+        self.stage.log.end("");
     }
 
     fn wake(&self) {
         let Some(waker) = self.last_waker() else {
             return;
         };
-        self.log.begin("wake");
+        self.stage.log.begin("wake");
         waker.wake();
-        self.log.end("");
+        self.stage.log.end("");
     }
 
     fn wake_by_ref(&self) {
@@ -275,27 +299,38 @@ impl<R: Wait + Drop + Copy> Handles<R> {
         self.keep_waker(Some(waker));
     }
 
-    fn drop_waker(&self) {
+    fn drop_waker(&self) -> bool {
         let Some(waker) = self.last_waker() else {
-            return;
+            return false;
         };
-        self.log.begin("drop_waker");
+        self.stage.log.begin("drop_waker");
         drop(waker);
-        self.log.end("");
+        self.stage.log.end("");
+        true
     }
 }
 
 /// The calls on the Task.
 impl<R: Wait + Drop + Copy> Handles<R> {
+    fn held_task(&self) -> Option<HeldTask<R>> {
+        self.task.lock(&self.rt).take()
+    }
+
+    fn hold_task(&self, held: Option<HeldTask<R>>) {
+        *self.task.lock(&self.rt) = held;
+    }
+
     fn keep_task(&self, task: CarriedTask<'_, R>) {
-        self.task.set(Some(HeldTask::Task(task.with_around(()))));
+        self.hold_task(Some(HeldTask::Task(task.with_around(()))));
     }
 
     fn poll(&self, number: u8) {
-        let Some(task) = self.task.replace(None) else {
+        let Some(task) = self.held_task() else {
             return;
         };
-        self.log.begin(if number == 0 { "poll0" } else { "poll1" });
+        self.stage
+            .log
+            .begin(if number == 0 { "poll0" } else { "poll1" });
         let awaiter = if number == 0 {
             &self.awaiters.0
         } else {
@@ -327,8 +362,7 @@ impl<R: Wait + Drop + Copy> Handles<R> {
     ) {
         let mut task = task.with_around(self);
         let answer = task.poll(awaiter);
-        self.task
-            .set(Some(HeldTask::Fallible(task.with_around(()))));
+        self.hold_task(Some(HeldTask::Fallible(task.with_around(()))));
         self.end_poll(answer);
     }
 
@@ -343,13 +377,13 @@ impl<R: Wait + Drop + Copy> Handles<R> {
         if matches!(answer, TaskPoll::Ready(_)) {
             drop(task);
         } else {
-            self.task.set(Some(HeldTask::Cancel(task.with_around(()))));
+            self.hold_task(Some(HeldTask::Cancel(task.with_around(()))));
         }
         self.end_poll(answer);
     }
 
     fn end_poll(&self, answer: TaskPoll<Option<Output>>) {
-        self.log.end(match &answer {
+        self.stage.log.end(match &answer {
             TaskPoll::Pending => "pending",
             TaskPoll::Refused => "refused",
             TaskPoll::Ready(Some(_)) => "output",
@@ -358,75 +392,76 @@ impl<R: Wait + Drop + Copy> Handles<R> {
     }
 
     fn fallible(&self) {
-        let changed = match self.task.replace(None) {
+        let changed = match self.held_task() {
             Some(HeldTask::Task(task)) => HeldTask::Fallible(task.fallible()),
             Some(other) => other,
             None => return,
         };
-        self.task.set(Some(changed));
+        self.hold_task(Some(changed));
     }
 
     fn cancel(&self) {
-        let changed = match self.task.replace(None) {
+        let changed = match self.held_task() {
             Some(HeldTask::Task(task)) => HeldTask::Cancel(task.cancel()),
             Some(HeldTask::Fallible(task)) => HeldTask::Cancel(task.cancel()),
             Some(other) => other,
             None => return,
         };
-        self.task.set(Some(changed));
+        self.hold_task(Some(changed));
     }
 
     fn detach(&self) {
-        match self.task.replace(None) {
+        match self.held_task() {
             Some(HeldTask::Task(task)) => {
-                self.log.begin("detach");
+                self.stage.log.begin("detach");
                 task.with_around(self).detach();
-                self.log.end("");
+                self.stage.log.end("");
             }
             Some(HeldTask::Fallible(task)) => {
-                self.log.begin("detach");
+                self.stage.log.begin("detach");
                 task.with_around(self).detach();
-                self.log.end("");
+                self.stage.log.end("");
             }
-            other => self.task.set(other),
+            other => self.hold_task(other),
         }
     }
 
-    fn drop_task(&self) {
-        let Some(task) = self.task.replace(None) else {
-            return;
+    fn drop_task(&self) -> bool {
+        let Some(task) = self.held_task() else {
+            return false;
         };
-        self.log.begin("drop_task");
+        self.stage.log.begin("drop_task");
         match task {
             HeldTask::Task(task) => drop(task.with_around(self)),
             HeldTask::Fallible(task) => drop(task.with_around(self)),
             HeldTask::Cancel(task) => drop(task.with_around(self)),
         }
-        self.log.end("");
+        self.stage.log.end("");
+        true
     }
 
     fn is_finished(&self) {
-        let mut held = self.task.replace(None);
+        let mut held = self.held_task();
         match &mut held {
             Some(HeldTask::Task(task)) => self.note_finished(task.is_finished()),
             Some(HeldTask::Fallible(task)) => self.note_finished(task.is_finished()),
             _ => {}
         }
-        self.task.set(held);
+        self.hold_task(held);
     }
 
     fn note_finished(&self, answer: bool) {
-        self.log.begin("is_finished");
-        self.log.end_with(answer);
+        self.stage.log.begin("is_finished");
+        self.stage.log.end_with(answer);
     }
 
     fn show(&self) {
-        let held = self.task.replace(None);
+        let held = self.held_task();
         match &held {
-            Some(HeldTask::Task(task)) => self.log.show(task),
-            Some(HeldTask::Fallible(task)) => self.log.show(task),
+            Some(HeldTask::Task(task)) => self.stage.log.show(task),
+            Some(HeldTask::Fallible(task)) => self.stage.log.show(task),
             _ => {}
         }
-        self.task.set(held);
+        self.hold_task(held);
     }
 }

@@ -1,15 +1,16 @@
 //! What happened in a script, in order.
 
 use std::alloc::{AllocError, Global};
-use std::cell::Cell;
-use std::fmt;
+use std::sync::Mutex;
+use std::sync::atomic::{AtomicBool, Ordering};
+use std::{fmt, mem};
 
-/// The words of what happened so far.
+/// The words of what happened so far. One thread at a time may note some.
 #[derive(Drop)]
 pub struct Log {
     alloc: Global,
-    text: Cell<String>,
-    lost: Cell<bool>,
+    text: Mutex<String>,
+    is_lost: AtomicBool,
 }
 
 impl Log {
@@ -17,8 +18,8 @@ impl Log {
     pub fn new(alloc: Global) -> Log {
         Log {
             alloc,
-            text: Cell::new(String::new(alloc)),
-            lost: Cell::new(false),
+            text: Mutex::new(String::new(alloc)),
+            is_lost: AtomicBool::new(false),
         }
     }
 
@@ -61,23 +62,27 @@ impl Log {
 
     /// Notes that something could not be made for want of memory.
     pub fn lose(&self) {
-        self.lost.set(true);
+        self.is_lost.store(true, Ordering::SeqCst);
     }
 
     /// Takes what was noted. An error if anything was lost.
     pub fn take(&self) -> Result<String, AllocError> {
-        let text = self.text.replace(String::new(self.alloc));
-        if self.lost.get() {
+        let text = self.text.try_lock().map(|mut text| mem::replace(
+            &mut *text,
+            String::new(self.alloc),
+        ));
+        if self.is_lost.load(Ordering::SeqCst) {
             return Err(AllocError);
         }
-        Ok(text)
+        text.ok_or(AllocError)
     }
 
     fn write(&self, text: &str) {
-        let mut all = self.text.replace(String::new(self.alloc));
-        let written = all.push_str(text);
-        self.text.set(all);
-        if written.is_err() {
+        let written = match self.text.try_lock() {
+            Some(mut all) => all.push_str(text).is_ok(),
+            None => false,
+        };
+        if !written {
             self.lose();
         }
     }

@@ -8,6 +8,7 @@ mod handles;
 mod log;
 mod replay;
 mod script;
+mod stage;
 mod values;
 
 use std::io::{BufReader, BufWriter};

@@ -2,12 +2,12 @@
 ghost use Rattle.std.specs.Prelude.{◌≤◌, IfOk};
 
 use crate::handles::Handles;
-use crate::log::Log;
-use crate::script::Script;
-use std::alloc::{AllocError, Global};
+use crate::script::{Call, Script};
+use crate::stage::{DEPTH, Stage};
+use std::alloc::Global;
 use std::io;
-use std::rc::Rc;
-use std::sync::Wait;
+use std::sync::{Arc, Wait};
+use std::thread::{self, Threads};
 
 /// What was given to the program as an argument is refused, since it takes none: the status, 2. `err` is told so.
 pub fn refuse<E: io::Write>(err: &mut E) -> u8
@@ -23,15 +23,14 @@ pub fn refuse<E: io::Write>(err: &mut E) -> u8
 
 /// Plays the scripts that are read from `input`, one a line, and prints a line of what happened in each.
 ///
-/// The status is 0 where all were played, 2 where a line is no script or not UTF-8, which is told on `err` by its number, and 1 where memory, the reader or a
-/// writer fails, which is told there too.
-pub fn answer<R: Wait + Drop + Copy, I: io::BufRead + Drop, W: io::Write, E: io::Write>(
-    rt: R,
-    alloc: Global,
-    input: I,
-    out: &mut W,
-    err: &mut E,
-) -> u8
+/// The status is 0 where all were played, 2 where a line is no script or not UTF-8, which is told on `err` by its number, and 1 where memory, a thread, the reader
+/// or a writer fails, which is told there too.
+pub fn answer<
+    R: Wait + Threads + Drop + Copy + Send + Sync,
+    I: io::BufRead + Drop,
+    W: io::Write,
+    E: io::Write,
+>(rt: R, alloc: Global, input: I, out: &mut W, err: &mut E) -> u8
     ensures { result ≤ 2 }
 {
     match play_lines(rt, alloc, input, out, err) {
@@ -44,13 +43,12 @@ pub fn answer<R: Wait + Drop + Copy, I: io::BufRead + Drop, W: io::Write, E: io:
     }
 }
 
-fn play_lines<R: Wait + Drop + Copy, I: io::BufRead + Drop, W: io::Write, E: io::Write>(
-    rt: R,
-    alloc: Global,
-    input: I,
-    out: &mut W,
-    err: &mut E,
-) -> io::Result<u8>
+fn play_lines<
+    R: Wait + Threads + Drop + Copy + Send + Sync,
+    I: io::BufRead + Drop,
+    W: io::Write,
+    E: io::Write,
+>(rt: R, alloc: Global, input: I, out: &mut W, err: &mut E) -> io::Result<u8>
     ensures { IfOk result (λ status. status ≤ 2) }
 {
     let mut number = 0u64;
@@ -90,14 +88,39 @@ fn tell<W: io::Write, E: io::Write>(
 }
 
 // What happens in a script.
-fn play<R: Wait + Drop + Copy>(rt: R, alloc: Global, script: Script) -> Result<String, AllocError> {
-    let Script { way, polls, calls } = script;
-    let log = Rc::new(alloc, Log::new(alloc))?;
-    let handles = Handles::new(alloc, log.clone()?, way, polls)?;
-    handles.spawn(rt)?;
-    for call in calls.iter() {
-        handles.call_outside(*call);
-    }
-    handles.end();
-    log.take()
+fn play<R: Wait + Threads + Drop + Copy + Send + Sync>(
+    rt: R,
+    alloc: Global,
+    script: Script,
+) -> io::Result<String> {
+    let Script {
+        way,
+        polls,
+        inside,
+        calls,
+    } = script;
+    let stage = Arc::new(alloc, Stage::new(alloc, inside))?;
+    let handles = Handles::new(rt, alloc, Arc::try_clone(&stage)?, way, polls)?;
+    play_beside(rt, &handles, &stage, calls.as_slice())?;
+    Ok(stage.log.take()?)
+}
+
+// Plays beside the threads that make the calls inside foreign code.
+fn play_beside<R: Wait + Threads + Drop + Copy + Send + Sync>(
+    rt: R,
+    handles: &Handles<R>,
+    stage: &Stage,
+    calls: &[Call],
+) -> io::Result<()> {
+    thread::scope(thread::scope_env(), &rt, |scope| {
+        for number in 1..=DEPTH {
+            if scope.spawn(move || handles.serve(number)).is_err() {
+                stage.end();
+                return Err(io::Error::from(io::ErrorKind::OutOfMemory));
+            }
+        }
+        let played = handles.play(calls);
+        stage.end();
+        Ok(played?)
+    })
 }

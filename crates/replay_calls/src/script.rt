@@ -1,4 +1,4 @@
-//! A script: what the future does when it is polled, and the calls that are made on the handles.
+//! A script: what the future does when it is polled, and the calls that are made on the handles, also inside foreign code.
 
 use std::alloc::{AllocError, Global};
 
@@ -11,6 +11,10 @@ pub enum Word {
     Pending,
     /// The poll answers ready.
     Ready,
+    /// The words up to the next `Done` are calls inside foreign code.
+    Inside(Moment),
+    /// These end.
+    Done,
     /// A call.
     Call(Call),
 }
@@ -54,6 +58,36 @@ pub enum Call {
     Show,
 }
 
+/// Foreign code in which calls are made.
+#[derive(Clone, Copy, Debug, PartialEq, Eq)]
+pub enum Moment {
+    /// The schedule function, once it has kept or dropped the Runnable.
+    Schedule,
+    /// The drop of the future.
+    FutureDrop,
+    /// The drop of the output.
+    OutputDrop,
+    /// The drop of the metadata.
+    MetadataDrop,
+    /// The drop of the schedule value.
+    ScheduleDrop,
+    /// The clone of an awaiter.
+    AwaiterClone,
+    /// The wake of an awaiter.
+    AwaiterWake,
+    /// The drop of an awaiter.
+    AwaiterDrop,
+}
+
+/// Calls inside foreign code.
+#[derive(Drop)]
+pub struct Inside {
+    /// Where they are made.
+    pub moment: Moment,
+    /// The calls.
+    pub calls: Vec<Call>,
+}
+
 /// What the schedule value does with each Runnable.
 #[derive(Clone, Copy, Debug, PartialEq, Eq)]
 pub enum Way {
@@ -72,6 +106,8 @@ pub struct Script {
     pub way: Way,
     /// What the polls of the future do, each up to its answer. A poll after the last one answers pending.
     pub polls: Vec<Word>,
+    /// The calls inside foreign code. The first of a moment are made when it comes first, the second when it comes again.
+    pub inside: Vec<Inside>,
     /// The calls.
     pub calls: Vec<Call>,
 }
@@ -83,9 +119,25 @@ impl Word {
             "polled" => Word::Polled,
             "pending" => Word::Pending,
             "ready" => Word::Ready,
-            _ => return Call::named(text).map(|call| Word::Call(call)),
+            "done" => Word::Done,
+            _ => return Word::named_in(text),
         };
         Some(word)
+    }
+
+    fn named_in(text: &str) -> Option<Word> {
+        let moment = match text {
+            "in_schedule" => Moment::Schedule,
+            "in_future_drop" => Moment::FutureDrop,
+            "in_output_drop" => Moment::OutputDrop,
+            "in_metadata_drop" => Moment::MetadataDrop,
+            "in_schedule_drop" => Moment::ScheduleDrop,
+            "in_awaiter_clone" => Moment::AwaiterClone,
+            "in_awaiter_wake" => Moment::AwaiterWake,
+            "in_awaiter_drop" => Moment::AwaiterDrop,
+            _ => return Call::named(text).map(|call| Word::Call(call)),
+        };
+        Some(Word::Inside(moment))
     }
 }
 
@@ -117,6 +169,14 @@ impl Call {
     }
 }
 
+// Whose words are being read.
+#[derive(Clone, Copy)]
+enum Part {
+    Calls,
+    Poll,
+    Inside,
+}
+
 impl Script {
     /// The script of a line, or `None` where the line is none: what the schedule value does, and then the words of polls and calls.
     pub fn read(alloc: Global, line: &str) -> Result<Option<Script>, AllocError> {
@@ -130,32 +190,56 @@ impl Script {
         let mut script = Script {
             way,
             polls: Vec::new(alloc),
+            inside: Vec::new(alloc),
             calls: Vec::new(alloc),
         };
-        let mut is_polled = false;
+        let mut part = Part::Calls;
         for text in words {
             let Some(word) = Word::named(text) else {
                 return Ok(None);
             };
-            if !script.add(word, &mut is_polled)? {
+            let Some(next) = script.add(alloc, word, part)? else {
                 return Ok(None);
-            }
+            };
+            part = next;
         }
-        Ok(if is_polled { None } else { Some(script) })
+        Ok(if matches!(part, Part::Calls) {
+            Some(script)
+        } else {
+            None
+        })
     }
 
-    // Adds a word: false where it may not stand there. `is_polled` says whether it is of a poll, and then whether the next one is.
-    fn add(&mut self, word: Word, is_polled: &mut bool) -> Result<bool, AllocError> {
-        match word {
-            Word::Polled if !*is_polled => *is_polled = true,
-            Word::Pending | Word::Ready if *is_polled => {
+    // Adds a word of this part: the part of the next word, or `None` where the word may not stand there.
+    fn add(&mut self, alloc: Global, word: Word, part: Part) -> Result<Option<Part>, AllocError> {
+        let next = match (part, word) {
+            (Part::Calls, Word::Polled) => Part::Poll,
+            (Part::Poll, Word::Pending | Word::Ready) => {
                 self.polls.push(word)?;
-                *is_polled = false;
+                Part::Calls
             }
-            Word::Call(_) if *is_polled => self.polls.push(word)?,
-            Word::Call(call) => self.calls.push(call)?,
-            _ => return Ok(false),
-        }
-        Ok(true)
+            (Part::Poll, Word::Call(_)) => {
+                self.polls.push(word)?;
+                Part::Poll
+            }
+            (Part::Calls, Word::Inside(moment)) => {
+                let calls = Vec::new(alloc);
+                self.inside.push(Inside { moment, calls })?;
+                Part::Inside
+            }
+            (Part::Inside, Word::Done) => Part::Calls,
+            (Part::Inside, Word::Call(call)) => {
+                if let Some(inside) = self.inside.last_mut() {
+                    inside.calls.push(call)?;
+                }
+                Part::Inside
+            }
+            (Part::Calls, Word::Call(call)) => {
+                self.calls.push(call)?;
+                Part::Calls
+            }
+            _ => return Ok(None),
+        };
+        Ok(Some(next))
     }
 }

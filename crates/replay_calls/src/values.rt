@@ -2,21 +2,22 @@
 ghost use Rattle.std.specs.Prelude.{⊤};
 
 use crate::handles::{CarriedRunnable, CarriedWaker, HeldRunnable};
-use crate::log::Log;
+use crate::script::Moment;
+use crate::stage::Stage;
 use async_task::{Future, Poll, Schedule, ScheduleInfo, Wake, Yields};
 use std::fmt;
-use std::rc::Rc;
-use std::sync::Wait;
+use std::sync::{Arc, Wait};
 
 /// The output of the future.
 pub struct Output {
-    log: Rc<Log>,
+    stage: Arc<Stage>,
 }
 
 impl Drop for Output {
     fn drop(self) {
-        let Output { log } = self;
-        log.note("output_dropped");
+        let Output { stage } = self;
+        stage.log.note("output_dropped");
+        stage.reach(Moment::OutputDrop);
     }
 }
 
@@ -24,21 +25,21 @@ impl Drop for Output {
 pub struct ScriptFuture {
     // The word at which its next poll begins.
     next: usize,
-    log: Rc<Log>,
+    stage: Arc<Stage>,
 }
 
 impl ScriptFuture {
     /// The future of a script, before its first poll.
-    pub fn new(log: Rc<Log>) -> ScriptFuture {
-        ScriptFuture { next: 0, log }
+    pub fn new(stage: Arc<Stage>) -> ScriptFuture {
+        ScriptFuture { next: 0, stage }
     }
 
     // Ready with an output, or pending where there is none.
     fn ready(&self) -> Poll<Output> {
-        match self.log.clone() {
-            Ok(log) => Poll::Ready(Output { log }),
+        match Arc::try_clone(&self.stage) {
+            Ok(stage) => Poll::Ready(Output { stage }),
             Err(_) => {
-                self.log.lose();
+                self.stage.log.lose();
                 Poll::Pending
             }
         }
@@ -47,8 +48,9 @@ impl ScriptFuture {
 
 impl Drop for ScriptFuture {
     fn drop(self) {
-        let ScriptFuture { next: _, log } = self;
-        log.note("future_dropped");
+        let ScriptFuture { next: _, stage } = self;
+        stage.log.note("future_dropped");
+        stage.reach(Moment::FutureDrop);
     }
 }
 
@@ -60,12 +62,12 @@ impl<'x, R: Wait + Drop + Copy> Future<CarriedWaker<'x, R>> for ScriptFuture {
     ghost polled = { λ _ _ _ _. ⊤ };
 
     fn poll(&mut self, waker: &CarriedWaker<'x, R>) -> Poll<Output> {
-        self.log.begin("future_polled");
+        self.stage.log.begin("future_polled");
         if waker.around().play_poll(&mut self.next, waker) {
-            self.log.end("ready");
+            self.stage.log.end("ready");
             self.ready()
         } else {
-            self.log.end("pending");
+            self.stage.log.end("pending");
             Poll::Pending
         }
     }
@@ -73,13 +75,13 @@ impl<'x, R: Wait + Drop + Copy> Future<CarriedWaker<'x, R>> for ScriptFuture {
 
 /// The metadata.
 pub struct Metadata {
-    log: Rc<Log>,
+    stage: Arc<Stage>,
 }
 
 impl Metadata {
     /// Metadata that notes here.
-    pub fn new(log: Rc<Log>) -> Metadata {
-        Metadata { log }
+    pub fn new(stage: Arc<Stage>) -> Metadata {
+        Metadata { stage }
     }
 }
 
@@ -91,27 +93,29 @@ impl fmt::Debug for Metadata {
 
 impl Drop for Metadata {
     fn drop(self) {
-        let Metadata { log } = self;
-        log.note("metadata_dropped");
+        let Metadata { stage } = self;
+        stage.log.note("metadata_dropped");
+        stage.reach(Moment::MetadataDrop);
     }
 }
 
 /// The schedule value.
 pub struct Scheduler {
-    log: Rc<Log>,
+    stage: Arc<Stage>,
 }
 
 impl Scheduler {
     /// A schedule value that notes here.
-    pub fn new(log: Rc<Log>) -> Scheduler {
-        Scheduler { log }
+    pub fn new(stage: Arc<Stage>) -> Scheduler {
+        Scheduler { stage }
     }
 }
 
 impl Drop for Scheduler {
     fn drop(self) {
-        let Scheduler { log } = self;
-        log.note("schedule_dropped");
+        let Scheduler { stage } = self;
+        stage.log.note("schedule_dropped");
+        stage.reach(Moment::ScheduleDrop);
     }
 }
 
@@ -119,12 +123,14 @@ impl<'x, R: Wait + Drop + Copy> Schedule<CarriedRunnable<'x, R>> for Scheduler {
     ghost scheduled = { λ _ _ _. ⊤ };
 
     fn schedule(&self, runnable: CarriedRunnable<'x, R>, info: ScheduleInfo) {
-        self.log.note(if info.woken_while_running {
+        self.stage.log.begin(if info.woken_while_running {
             "scheduled_woken"
         } else {
             "scheduled"
         });
         runnable.around().accept(runnable);
+        self.stage.reach(Moment::Schedule);
+        self.stage.log.end("");
     }
 }
 
@@ -133,54 +139,62 @@ impl<R: Wait + Drop + Copy> Schedule<HeldRunnable<R>> for Scheduler {
     ghost scheduled = { λ _ _ _. ⊤ };
 
     fn schedule(&self, _runnable: HeldRunnable<R>, _info: ScheduleInfo) {
-        self.log.note("scheduled_bare");
+        self.stage.log.note("scheduled_bare");
     }
 }
 
 /// An awaiter.
 pub struct Awaiter {
     number: u8,
-    log: Rc<Log>,
+    stage: Arc<Stage>,
 }
 
 impl Awaiter {
     /// An awaiter of that number, 0 or 1, which its clones have too.
-    pub fn new(number: u8, log: Rc<Log>) -> Awaiter {
-        Awaiter { number, log }
+    pub fn new(number: u8, stage: Arc<Stage>) -> Awaiter {
+        Awaiter { number, stage }
     }
 }
 
 impl Drop for Awaiter {
     fn drop(self) {
-        let Awaiter { number, log } = self;
-        log.note_of("dropped", number);
+        let Awaiter { number, stage } = self;
+        stage.log.note_of("dropped", number);
+        stage.reach(Moment::AwaiterDrop);
     }
 }
 
 impl Wake for Awaiter {
-    ghost woken = { λ _. ⊤ };
+    type Record = ();
 
-    ghost woken_by_ref = { λ _. ⊤ };
+    ghost woken = { λ _ _. ⊤ };
+
+    ghost woken_by_ref = { λ _ _. ⊤ };
 
     ghost cloned = { λ _ _. ⊤ };
 
     ghost compared = { λ _ _ _. ⊤ };
 
     fn wake(self) {
-        let Awaiter { number, log } = self;
-        log.note_of("woken", number);
+        let Awaiter { number, stage } = self;
+        stage.log.note_of("woken", number);
+        stage.reach(Moment::AwaiterWake);
     }
 
     fn wake_by_ref(&self) {
-        self.log.note_of("woken_by_ref", self.number);
+        self.stage.log.note_of("woken_by_ref", self.number);
+        self.stage.reach(Moment::AwaiterWake);
     }
 
-    fn try_clone(&self) -> Option<Awaiter> {
-        let log = self.log.clone().ok()?;
-        log.note_of("cloned", self.number);
-        Some(Awaiter {
+    fn try_clone(&self) -> Result<Awaiter, ()> {
+        let Ok(stage) = Arc::try_clone(&self.stage) else {
+            return Err(());
+        };
+        stage.log.note_of("cloned", self.number);
+        stage.reach(Moment::AwaiterClone);
+        Ok(Awaiter {
             number: self.number,
-            log,
+            stage,
         })
     }
 

@@ -15,7 +15,7 @@ pub type RowFallible<'x, R> = FallibleTask<R, RowFuture, Scheduler, (), Flag, &'
 
 /// Runs: what the run answers.
 pub fn run<R: Wait + Drop + Copy>(runnable: RowRunnable<'_, R>) -> bool {
-    runnable.run()
+    runnable.run().0
 }
 
 /// Drops a Runnable.

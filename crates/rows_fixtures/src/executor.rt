@@ -96,6 +96,6 @@ impl<R: Wait + Drop + Copy> PriorityQueue<R> {
         let queued = self.heap.lock(&self.rt).pop()?;
         let runnable = queued.with_around(self);
         let priority = *runnable.metadata();
-        Some((priority, runnable.run()))
+        Some((priority, runnable.run().0))
     }
 }

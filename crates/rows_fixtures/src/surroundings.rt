@@ -144,7 +144,7 @@ impl<R: Wait + Drop + Copy> Surroundings<R> {
 
     /// Receives a Runnable and runs it: what the run answers, or `None` where the queue is empty.
     pub fn run_next(&self) -> Option<bool> {
-        Some(self.receive()?.run())
+        Some(self.receive()?.run().0)
     }
 
     /// Drops all Runnables of the queue, which cancels their tasks. The room that was taken for them goes too.
@@ -170,7 +170,7 @@ impl<R: Wait + Drop + Copy> Surroundings<R> {
     /// Keeps a clone of a waker in the store, and drops the one that was there. Where a clone is refused,
     /// the store is left as it was, and a row that takes the waker does not agree.
     pub fn keep<'x>(&'x self, waker: &RowWaker<'x, R>) {
-        let Some(clone) = waker.try_clone() else {
+        let Ok(clone) = waker.try_clone() else {
             return;
         };
         let bare = clone.with_around(());

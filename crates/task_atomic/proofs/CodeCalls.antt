@@ -10,7 +10,6 @@ use Rattle.task_core.specs.declared.acts.Act.TheVariants.{Look, LookFinished, En
 use Rattle.task_laws.specs.declared.positions.Position.{Position}
 use Rattle.task_laws.specs.Machine.{Machine, Step, opening, scene, after as left_by, moves, step, run_from, run}
 use Rattle.task_laws.specs.Table.{rule}
-use Rattle.task_steps.specs.declared.table.Slot.{Slot}
 use Rattle.task_steps.specs.declared.table.Deed.{Deed}
 use Rattle.task_steps.specs.declared.table.Member.{Member}
 use Rattle.task_steps.specs.declared.table.View.{View}

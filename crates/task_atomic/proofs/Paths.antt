@@ -1,6 +1,6 @@
 -- The paths of the calls, part by part.
 use Rattle.std.proofs.Common.{◌≡◌, ◌⊎◌, ℕ, Bool, true, false, List, [], ◌∷◌, ◌++◌, Option, refl, ap, ◌∙◌, inl, inr}
-use Rattle.std.specs.Prelude.{if◌then◌else◌}
+use Rattle.std.specs.Prelude.{if◌then◌else◌, Result}
 use Rattle.task_core.specs.Word.{State}
 use Rattle.task_core.specs.declared.acts.Act.TheVariants.{EndCall, DropFuture, Unschedule, Look, HandOutOutput}
 use Rattle.task_core.specs.declared.traits.Poll.{Poll}
@@ -132,53 +132,53 @@ drops_task whole rest e (inl shared) = inl (e ∙ ap (λ acts. Cancels ∷ acts)
 drops_task whole rest e (inr given) = inr (e ∙ ap (λ acts. Cancels ∷ acts) given)
 
 -- polls
-module _ {A : Type 0} {woken : A → Type 0} {compared : A → A → Bool → Type 0} where
+module _ {A K : Type 0} {woken : A → K → Type 0} {compared : A → A → Bool → Type 0} where
   takes : (awaiter : A) (taken rest : List Deed) → TakePath woken compared awaiter taken → acts_of (taken ++ rest) ≡ acts_of rest
   takes awaiter taken rest (poll.misses w fits) = refl
   takes awaiter taken rest (poll.finds_none w v fits) = refl
-  takes awaiter taken rest (poll.wakes w v a fits other fact) = refl
+  takes awaiter taken rest (poll.wakes w v a told fits other fact) = refl
   takes awaiter taken rest (poll.drops w v a fits same) = refl
 
   sees_end : (awaiter : A) (w : State) (taken rest : List Deed) → TakePath woken compared awaiter taken
       → acts_of (row Look w ∷ taken ++ rest) ≡ SeesClosed ∷ acts_of rest
   sees_end awaiter w taken rest (poll.misses v fits) = refl
   sees_end awaiter w taken rest (poll.finds_none v u fits) = refl
-  sees_end awaiter w taken rest (poll.wakes v u a fits other fact) = refl
+  sees_end awaiter w taken rest (poll.wakes v u a told fits other fact) = refl
   sees_end awaiter w taken rest (poll.drops v u a fits same) = refl
 
-takes_if : {A : Type 0} (woken : A → Type 0) (compared : A → A → Bool → Type 0) (awaiter : A) (due : Bool) (taken rest : List Deed)
+takes_if : {A K : Type 0} (woken : A → K → Type 0) (compared : A → A → Bool → Type 0) (awaiter : A) (due : Bool) (taken rest : List Deed)
     → TakePathIf woken compared awaiter due taken → acts_of (taken ++ rest) ≡ acts_of rest
 takes_if woken compared awaiter true taken rest take = takes awaiter taken rest take
 takes_if woken compared awaiter false taken rest none = ap (λ l. acts_of (l ++ rest)) none
 
-claims : {A : Type 0} {woken : A → Type 0} {compared : A → A → Bool → Type 0} (awaiter : A) (w : State) (path : List Deed)
+claims : {A K : Type 0} {woken : A → K → Type 0} {compared : A → A → Bool → Type 0} (awaiter : A) (w : State) (path : List Deed)
     → ClaimPath woken compared awaiter w path → acts_of path ≡ Claims ∷ []
 claims {woken} {compared} awaiter w path (poll.claims taken there take) =
     ap (λ acts. Claims ∷ acts) (takes_if woken compared awaiter w.awaiter taken (act HandOutOutput ∷ act EndCall ∷ []) take)
 
-registers : {A : Type 0} {cloned : A → Option A → Type 0} {woken woken_by_ref : A → Type 0} (awaiter : A) (w : State) (registered rest : List Deed)
+registers : {A K : Type 0} {cloned : A → Result A K → Type 0} {woken woken_by_ref : A → K → Type 0} (awaiter : A) (w : State) (registered rest : List Deed)
     → RegisterPath cloned woken woken_by_ref awaiter registered → acts_of (row Look w ∷ registered ++ rest) ≡ acts_of rest
-registers awaiter w registered rest (poll.finds_notifier v clone there is_clone fact) = refl
+registers awaiter w registered rest (poll.finds_notifier v clone told there is_clone fact) = refl
 registers awaiter w registered rest (poll.registers v u true clone none still is_clone) = refl
 registers awaiter w registered rest (poll.registers v u false clone none still is_clone) = refl
-registers awaiter w registered rest (poll.was_notified v u true clone none now is_clone fact) = refl
-registers awaiter w registered rest (poll.was_notified v u false clone none now is_clone fact) = refl
+registers awaiter w registered rest (poll.was_notified v u true clone told none now is_clone fact) = refl
+registers awaiter w registered rest (poll.was_notified v u false clone told none now is_clone fact) = refl
 
-answers : {A T : Type 0} {woken : A → Type 0} {compared : A → A → Bool → Type 0} (awaiter : A) (path : List Deed) (answer : TaskPoll (Option T))
+answers : {A K T : Type 0} {woken : A → K → Type 0} {compared : A → A → Bool → Type 0} (awaiter : A) (path : List Deed) (answer : TaskPoll (Option T))
     → AnswerPath woken compared awaiter path answer → acts_of path ≡ polls answer
 answers awaiter path answer (poll.waits w wait) = refl
 answers awaiter path answer (poll.has_ended_since w taken ended take) = sees_end awaiter w taken (act EndCall ∷ []) take
 answers awaiter path answer (poll.has_output_since w rest x (poll.claims taken there take)) = claims awaiter w rest (poll.claims taken there take)
 
-polls_are : {A T : Type 0} {cloned : A → Option A → Type 0} {woken woken_by_ref : A → Type 0} {compared : A → A → Bool → Type 0} (awaiter : A)
+polls_are : {A K T : Type 0} {cloned : A → Result A K → Type 0} {woken woken_by_ref : A → K → Type 0} {compared : A → A → Bool → Type 0} (awaiter : A)
     (answer : TaskPoll (Option T)) (path : List Deed) → PollPath cloned woken woken_by_ref compared awaiter path answer → acts_of path ≡ polls answer
 polls_are awaiter answer path (poll.finds_output w same x claim) = claims awaiter w same claim
 polls_are awaiter answer path (poll.finds_ended w taken ended take) = sees_end awaiter w taken (act EndCall ∷ []) take
-polls_are awaiter answer path (poll.is_refused w none still_open refused) = refl
+polls_are awaiter answer path (poll.is_refused w told none still_open refused) = refl
 polls_are awaiter answer path (poll.looks_again w registered rest same none still_open register again) =
     registers awaiter w registered rest register ∙ answers awaiter rest same again
 
-polls_cancel : {A T : Type 0} (S W : Type 0) {cloned : A → Option A → Type 0} {woken woken_by_ref : A → Type 0} {compared : A → A → Bool → Type 0}
+polls_cancel : {A K T : Type 0} (S W : Type 0) {cloned : A → Result A K → Type 0} {woken woken_by_ref : A → K → Type 0} {compared : A → A → Bool → Type 0}
     (was_closed : Bool) (awaiter : A) (answer : TaskPoll (Option T)) (closing path : List Deed) → ClosesUnless was_closed (CancelPath S W) closing
     → PollPath cloned woken woken_by_ref compared awaiter path answer
     → acts_of (closing ++ path) ≡ (if was_closed then polls answer else Cancels ∷ polls answer)
@@ -186,8 +186,8 @@ polls_cancel S W true awaiter answer closing path none polled = ap (λ l. acts_o
 polls_cancel S W false awaiter answer closing path cancel polled =
     cancels_then closing path cancel ∙ ap (λ acts. Cancels ∷ acts) (polls_are awaiter answer path polled)
 
-pub paths_are_acts : {A T : Type 0} {S : Bool → Type 0} {P : Poll T → Type 0} {W : Type 0} {cloned : A → Option A → Type 0}
-    {woken woken_by_ref : A → Type 0} {compared : A → A → Bool → Type 0} → PathsAreActs S P W cloned woken woken_by_ref compared
+pub paths_are_acts : {A K T : Type 0} {S : Bool → Type 0} {P : Poll T → Type 0} {W : Type 0} {cloned : A → Result A K → Type 0}
+    {woken woken_by_ref : A → K → Type 0} {compared : A → A → Bool → Type 0} → PathsAreActs S P W cloned woken woken_by_ref compared
 paths_are_acts {S} {W} = record {
   wake = wake_calls;
   gain = gains;

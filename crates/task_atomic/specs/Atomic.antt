@@ -1,4 +1,4 @@
--- 2 of 10: each step of the machine is an act on the small task, which may be made then, and leaves of it what the step leaves; or it is none. So
+-- 2 of 12: each step of the machine is an act on the small task, which may be made then, and leaves of it what the step leaves; or it is none. So
 -- each interleaving is a run of the small task.
 use Rattle.std.specs.Prelude.{◌≡◌, ℕ, Bool, true, false, List, [], ◌∷◌, Option, Some, None, is_some, unwrap_or, option_map, slice_get}
 use Rattle.std.specs.List.{find}
@@ -31,6 +31,7 @@ rows =
     ∷ (EndsReady, Complete ∷ CompleteDetached ∷ []) ∷ (EndsPending true, Reschedule ∷ [])
     ∷ (EndsPending false, EndClosed ∷ EndIdle ∷ EndOrphaned ∷ []) ∷ []
 
+-- whether the row of the table is listed for this act on the small task
 abbrev pub is_row : Act → SmallAct × List Act → Bool
 is_row act row = is_some (find (act_eq.ghosts.eq act) row.1)
 
@@ -57,20 +58,23 @@ abbrev pub act_in : Act → Option Position → SmallAct
 act_in act None = NoAct
 act_in act (Some next) = act_of act next
 
+-- the act of one step, by where its party stands after it
 abbrev pub act_at : Step → Option Machine → SmallAct
 act_at s None = NoAct
 act_at s (Some left) = act_in s.act (slice_get left.parties s.party)
 
+-- the acts of a list of steps, each with who makes it
 abbrev pub small_steps : Option Machine → List Step → List SmallStep
 small_steps m [] = []
 small_steps None (s ∷ steps) = []
 small_steps (Some m) (s ∷ steps) = record { party = s.party; act = act_at s (step m s) } ∷ small_steps (step m s) steps
 
--- from the spawn each list of steps is a run of the small task, which leaves what the word reads as
+-- the acts alone, without who makes them
 abbrev pub acts_in : List SmallStep → List SmallAct
 acts_in [] = []
 acts_in (s ∷ steps) = s.act ∷ acts_in steps
 
+-- from the spawn each list of steps is a run of the small task, which leaves what the word reads as
 abbrev pub StepsAreRuns : Type 0
 StepsAreRuns = (limit : ℕ) (steps : List Step) (m : Machine) → run limit steps ≡ Some m
     → all_acted limit (acts_in (small_steps (Some (opening limit)) steps)) (Some spawned) ≡ Some (small_task m.word)

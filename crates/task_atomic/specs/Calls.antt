@@ -1,4 +1,4 @@
--- 4 of 10: each call makes its acts, and no other: how a party comes to the end of a call.
+-- 4 of 12: each call makes its acts, and no other: how a party comes to the end of a call.
 use Rattle.std.specs.Prelude.{◌≡◌, ◌⊎◌, ℕ, Bool, true, false, nat_eq, if◌then◌else◌, List, [], ◌∷◌, Option, Some, None, option_and_then, slice_get}
 use Rattle.task_core.specs.declared.acts.Act.{Act}
 use Rattle.task_core.specs.declared.acts.Act.TheVariants.{EndCall}
@@ -45,6 +45,7 @@ pub record InCall : Type 0 where
   pub call : Option Call
   pub acts : List SmallAct
 
+-- an act before others; a step that is no act adds none
 abbrev pub and_act : SmallAct → List SmallAct → List SmallAct
 and_act NoAct acts = acts
 and_act act acts = act ∷ acts

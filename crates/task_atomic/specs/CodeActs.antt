@@ -1,4 +1,4 @@
--- 8 of 10: the log of the rule is a run of the small task that ends in the present word; each deed of the code in it is its act, at its moment; and
+-- 8 of 12: the log of the rule is a run of the small task that ends in the present word; each deed of the code in it is its act, at its moment; and
 -- the acts of a call are those of its path, in this order, between the first deed of the call and its answer.
 use Rattle.std.specs.Prelude.{◌≡◌, ℕ, eqb, List, [], ◌∷◌, ◌++◌, Option, Some, None, slice_get, slice_index, if◌then◌else◌}
 use mathlib.Core.Option.{some}
@@ -9,12 +9,11 @@ use Rattle.task_core.specs.declared.acts.Act.TheVariants.{EndCall}
 use Rattle.task_laws.specs.declared.positions.Position.{Position}
 use Rattle.task_laws.specs.Machine.{Machine, opening, scene, run}
 use Rattle.task_laws.specs.Table.{Outcome, rule}
-use Rattle.task_steps.specs.declared.table.Slot.{Slot}
 use Rattle.task_steps.specs.declared.table.Deed.{Deed}
 use Rattle.task_steps.specs.declared.table.Member.{Member}
 use Rattle.task_steps.specs.declared.table.View.{View}
 use Rattle.task_steps.specs.Deeds.{act, after}
-use Rattle.task_steps.specs.Rule.{Entry, Reaches, steps_of, deeds_of, DidLast, RuleHolds}
+use Rattle.task_steps.specs.Rule.{TaskPlace, Entry, Reaches, steps_of, deeds_of, DidLast, RuleHolds}
 use Rattle.task_atomic.specs.Small.{small_task, SmallAct, spawned, acted, all_acted}
 use Rattle.task_atomic.specs.Atomic.{act_of, SmallStep, small_steps, acts_in}
 use Rattle.task_atomic.specs.Calls.{and_act}
@@ -46,6 +45,7 @@ abbrev pub newest : List Entry → Option ℕ
 newest [] = None
 newest (e ∷ earlier) = Some e.party
 
+-- who made the oldest step
 abbrev pub oldest : List Entry → Option ℕ
 oldest [] = None
 oldest (e ∷ []) = Some e.party
@@ -74,7 +74,7 @@ CallsAreActs = (limit : ℕ) (log : List Entry) (m : Machine) → Reaches limit 
 
 module _ {F T A : Type 0} where
   -- an interleaving ends in the present word, and is a run of the small task; in it a party stands here, and did this last
-  pub record IsRunOf (limit : ℕ) (s : Board (Slot F T A) View) (at : Position) (ds : List Deed) : Type 0 where
+  pub record IsRunOf (limit : ℕ) (s : Board (TaskPlace F T A) View) (at : Position) (ds : List Deed) : Type 0 where
     pub machine : Machine
     pub log : List Entry
     pub reached : Reaches limit log machine
@@ -87,5 +87,5 @@ module _ {F T A : Type 0} where
 -- .. wherever the rule of a cell holds, for each party of a seat
 abbrev pub CellsAreRuns : Type 0 → Type 0 → Type 0 → Type 0
 CellsAreRuns F T A =
-    (limit : ℕ) (s : Board (Slot F T A) View) → RuleHolds {F = F} {T = T} {A = A} limit s → (id index : ℕ) (v : View) (u : Member)
+    (limit : ℕ) (s : Board (TaskPlace F T A) View) → RuleHolds {F = F} {T = T} {A = A} limit s → (id index : ℕ) (v : View) (u : Member)
     → get_elem? s.views id ≡ some v → get_elem? v.members index ≡ some u → IsRunOf limit s u.at u.deeds

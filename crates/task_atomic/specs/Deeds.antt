@@ -1,4 +1,4 @@
--- 6 of 10: the acts on the small task that a party makes by a list of deeds.
+-- 6 of 12: the acts on the small task that a party makes by a list of deeds.
 use Rattle.std.specs.Prelude.{◌≡◌, not, List, [], ◌∷◌, Option, Some, None}
 use Rattle.task_core.specs.Word.{State, is_open}
 use Rattle.task_core.specs.declared.acts.Act.{Act}
@@ -26,6 +26,7 @@ saw_before BeginNotify = SeesClosed
 saw_before MissNotify = SeesClosed
 saw_before act = NoAct
 
+-- the same by all deeds after the look: a look that is the last deed is no act
 abbrev pub saw : List Deed → SmallAct
 saw [] = NoAct
 saw (next ∷ path) = saw_before next.act

@@ -1,4 +1,4 @@
--- 3 of 10: what each row finds, said again of the small task.
+-- 3 of 12: what each row finds, said again of the small task.
 use Rattle.std.specs.Prelude.{◌≡◌, ℕ, Bool, true, false, not, ◌&&◌, ◌||◌, nat_lt, nat_eq, List, Option, Some, None}
 use Rattle.task_core.specs.Word.{State}
 use Rattle.task_core.specs.Rows.{found}
@@ -16,9 +16,11 @@ use Rattle.task_atomic.specs.Small.{small_task, SmallTask, is_idle, is_queued, i
 abbrev pub is_due : SmallTask → Bool
 is_due s = is_queued s.phase || is_woken s.phase
 
+-- another handle is left beside the one that gives its reference up
 abbrev pub has_other : SmallTask → Bool
 has_other s = nat_lt 1 s.references || s.has_task
 
+-- the one that gives its reference up is the last handle
 abbrev pub is_last : SmallTask → Bool
 is_last s = nat_eq s.references 1 && not s.has_task
 
@@ -57,6 +59,7 @@ finds limit EndIdle s = Some (not s.closed && not (is_due s) && has_other s)
 finds limit EndOrphaned s = Some (not s.closed && not (is_due s) && is_last s)
 finds limit act s = None
 
+-- the row finds its word exactly where this says so; of some rows nothing is said
 abbrev pub Agrees : Bool → Option Bool → Type 0
 Agrees is_found None = Unit {0}
 Agrees is_found (Some says) = is_found ≡ says

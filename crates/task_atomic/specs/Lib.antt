@@ -7,5 +7,7 @@ pub mod Tables
 pub mod Deeds
 pub mod Paths
 pub mod CodeActs
+pub mod Nesting
+pub mod Witnessed
 pub mod Tokens
 pub mod Runs

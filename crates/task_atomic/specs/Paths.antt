@@ -1,5 +1,5 @@
--- 7 of 10: which acts the path of each call is.
-use Rattle.std.specs.Prelude.{◌≡◌, ◌⊎◌, ℕ, Bool, false, not, List, [], ◌∷◌, ◌++◌, if◌then◌else◌, Option, Some, None}
+-- 7 of 12: which acts the path of each call is.
+use Rattle.std.specs.Prelude.{◌≡◌, ◌⊎◌, ℕ, Bool, false, not, List, [], ◌∷◌, ◌++◌, if◌then◌else◌, Option, Some, None, Result}
 use Rattle.task_core.specs.Word.{State, is_open}
 use Rattle.task_core.specs.declared.acts.Act.TheVariants.{HandOver, EndCall, LookFinished}
 use Rattle.task_core.specs.declared.traits.Poll.{Poll}
@@ -36,9 +36,9 @@ runs answer path (finds_closed w rest closed ends) = Starts ∷ EndsUnpolled ∷
 runs answer path (answers_ready w output rest still_open polled ends) = Starts ∷ EndsReady ∷ Drops ∷ []
 runs answer path (answers_pending w woken rest still_open polled ends) = Starts ∷ ends_pending woken rest ends
 
--- each call, for whatever facts its foreign calls promise
-pub record PathsAreActs {A T : Type 0} (Scheduled : Bool → Type 0) (Polled : Poll T → Type 0) (Woken : Type 0) (cloned : A → Option A → Type 0)
-    (woken woken_by_ref : A → Type 0) (compared : A → A → Bool → Type 0) : Type 0 where
+-- each call, for whatever facts its foreign calls promise; K is the type of the records that an awaiter's calls answer
+pub record PathsAreActs {A K T : Type 0} (Scheduled : Bool → Type 0) (Polled : Poll T → Type 0) (Woken : Type 0) (cloned : A → Result A K → Type 0)
+    (woken woken_by_ref : A → K → Type 0) (compared : A → A → Bool → Type 0) : Type 0 where
   -- of a waker
   pub wake : (path : List Deed) → WakeCallPath (Scheduled false) path → acts_of path ≡ Wakes ∷ []
   pub gain : (limit : ℕ) (gained : Bool) (path : List Deed) → GainPath limit gained path → acts_of path ≡ Gains gained ∷ []

@@ -1,4 +1,4 @@
--- 5 of 10: a poll that answers Pending is registered, and stays so while the task is open.
+-- 5 of 12: a poll that answers Pending is registered, and stays so while the task is open.
 use Rattle.std.specs.Prelude.{◌≡◌, ℕ, true, List, Some, slice_get}
 use Rattle.task_core.specs.Word.{is_open}
 use Rattle.task_core.specs.declared.acts.Act.TheVariants.{Look}

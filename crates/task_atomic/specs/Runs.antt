@@ -1,4 +1,4 @@
--- 10 of 10: each list of calls of a task of one thread is a run of the abstract task of a cell.
+-- 12 of 12: each list of calls of a task of one thread is a run of the abstract task of a cell.
 use Rattle.std.specs.Prelude.{◌≡◌, ℕ, false, if◌then◌else◌, List, [], ◌∷◌, ◌++◌, Option, Some, None}
 use Rattle.task_core.specs.Local.{Phase, Local, Started, IsPolled, IsEnded, IsNotDue, starts, settles, discards, claims, registers, has_room, is_done, is_started}
 use Rattle.task_laws.specs.Event.{Event, CallEnds}
@@ -14,10 +14,12 @@ tells_start number (IsEnded e) = CallEnds (Ran false) ∷ tells (plain_effect nu
 tells_start number (IsPolled e) = []
 tells_start number (IsNotDue e) = []
 
+-- the number of an awaiter, and 0 where there is none
 abbrev pub or_none : Option ℕ → ℕ
 or_none None = 0
 or_none (Some i) = i
 
+-- the events of one call of the task of one thread
 abbrev pub tells_call : {F T A : Type 0} → (A → ℕ) → ℕ → Call F T A → Local F T A → List Event
 tells_call number limit Start t = tells_start number (starts t)
 tells_call number limit DiscardRunnable t = tells_of_drop (plain_effect number (discards t))
@@ -32,6 +34,7 @@ abbrev pub tells_at : {F T A : Type 0} → (A → ℕ) → ℕ → Call F T A �
 tells_at number limit call None = []
 tells_at number limit call (Some t) = tells_call number limit call t
 
+-- the events of a list of calls, made on a new task
 abbrev pub all_told : {F T A : Type 0} → (A → ℕ) → ℕ → F → List (Call F T A) → List Event
 all_told number limit f [] = []
 all_told number limit f (call ∷ earlier) = tells_at number limit call (all_called limit f earlier) ++ all_told number limit f earlier

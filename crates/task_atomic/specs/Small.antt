@@ -1,4 +1,4 @@
--- 1 of 10: a task as its callers see it: when each act on it may be made, what the act leaves of it, and what it answers.
+-- 1 of 12: a task as its callers see it: when each act on it may be made, what the act leaves of it, and what it answers.
 use Rattle.std.specs.Prelude.{ℕ, ◌+◌, ◌-◌, Bool, true, false, not, ◌&&◌, ◌||◌, nat_lt, if◌then◌else◌, List, [], ◌∷◌, Option, Some, None}
 use Rattle.task_core.specs.Word.{State}
 use Rattle.task_core.specs.Local.{Phase, Idle, Queued, Polled, PolledAndWoken, Done}
@@ -10,10 +10,11 @@ pub record SmallTask : Type 0 where
   pub has_task : Bool
   pub references : ℕ
 
--- after a spawn; and once it has lost its last handle, so that it is closed, and queued once more
+-- after a spawn
 abbrev pub spawned : SmallTask
 spawned = record { phase = Queued; closed = false; has_task = true; references = 1 }
 
+-- no handle is left but one Runnable, whose run drops the future
 abbrev pub orphaned : SmallTask
 orphaned = record { phase = Queued; closed = true; has_task = false; references = 1 }
 
@@ -22,30 +23,36 @@ abbrev pub is_idle : Phase → Bool
 is_idle Idle = true
 is_idle _ = false
 
+-- a Runnable exists
 abbrev pub is_queued : Phase → Bool
 is_queued Queued = true
 is_queued _ = false
 
+-- a run polls the future
 abbrev pub is_polled : Phase → Bool
 is_polled Polled = true
 is_polled PolledAndWoken = true
 is_polled _ = false
 
+-- a run polls the future, and a wake has come meanwhile
 abbrev pub is_woken : Phase → Bool
 is_woken PolledAndWoken = true
 is_woken _ = false
 
+-- the future is gone
 abbrev pub is_done : Phase → Bool
 is_done Done = true
 is_done _ = false
 
--- .. and of the task: it is over; it has an output; it has a handle
+-- what is asked of the task: it is over
 abbrev pub is_over : SmallTask → Bool
 is_over s = is_done s.phase || s.closed
 
+-- it is done, and its output is neither claimed nor given up
 abbrev pub has_output : SmallTask → Bool
 has_output s = is_done s.phase && not s.closed
 
+-- its Task, a Runnable, a run or a waker exists
 abbrev pub has_handle : SmallTask → Bool
 has_handle s = s.has_task || nat_lt 0 s.references
 
@@ -66,6 +73,7 @@ wake s = if is_over s then s else woken s.phase
 abbrev pub close : SmallTask → SmallTask
 close s = record s { closed = true }
 
+-- a cancel closes a task that is not over, and makes a Runnable of an idle one
 abbrev pub cancel : SmallTask → SmallTask
 cancel s = if is_over s then s else (if is_idle s.phase then close (queue s) else close s)
 
@@ -77,9 +85,11 @@ detach s = if nat_lt 0 s.references || s.closed then record s { has_task = false
 abbrev pub start : SmallTask → SmallTask
 start s = if s.closed then s else record s { phase = Polled }
 
+-- a run ends with an output; without a Task nobody may claim it, and the task is closed
 abbrev pub end_ready : SmallTask → SmallTask
 end_ready s = record s { phase = Done; closed = s.closed || not s.has_task }
 
+-- a run ends without one: a closed task is done, a woken one is queued again, and any other is idle, or orphaned without a handle
 abbrev pub end_pending : SmallTask → SmallTask
 end_pending s =
     if s.closed then record s { phase = Done }
@@ -100,6 +110,7 @@ abbrev pub same : Bool → Bool → Bool
 same true b = b
 same false b = not b
 
+-- what an act leaves, where it may be made
 abbrev pub only_if : Bool → SmallTask → Option SmallTask
 only_if may s = if may then Some s else None
 
@@ -137,5 +148,6 @@ phase_of w =
     if w.scheduled then (if w.running then PolledAndWoken else Queued)
     else (if w.running then Polled else (if w.completed || w.closed then Done else Idle))
 
+-- the small task that the word shows
 abbrev pub small_task : State → SmallTask
 small_task w = record { phase = phase_of w; closed = w.closed; has_task = w.task; references = w.references }

@@ -17,6 +17,7 @@ cancels_again s CancelOver (CallEnding Nothing (Task n)) =
     where_found (found s.limit CancelOver s.word) (Some (leaves_slots s s.word (CallEnding Nothing (Task n)) [] []))
 cancels_again s act p = rule s act p
 
+-- this table differs in one row and keeps all laws; but its cancel acts more than once
 pub record CancelsAgain : Type 0 where
   pub one_row : DiffersIn CancelOver cancels_again
   pub laws_hold : (limit : ℕ) (steps : List Step) (m : Machine) → run_by cancels_again limit steps ≡ Some m → Laws m

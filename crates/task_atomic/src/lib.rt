@@ -1,8 +1,8 @@
 //! What each call does to a task, as its callers see it: atomic acts on a small task, whatever other calls do meanwhile; that the paths which the
-//! contracts of the public calls promise are these acts, made in the interleaving that the rule of a cell speaks of; and that lists of calls of a task
-//! of one thread are runs of the abstract task of a cell.
+//! contracts of the public calls promise are these acts, made in the interleaving that the rule of a cell speaks of; that an interleaving in which calls
+//! nest is a run of the abstract task of a cell; and that lists of calls of a task of one thread are such runs.
 //! It stands on `task_laws`, `async_task` and `local_task`, and takes from `task_progress` how a table of moves is run.
-//! A user calls nothing of it: the contracts of `atomic`, `calls`, `code` and `runs` are the theorems.
+//! A user calls nothing of it: the contracts of `atomic`, `calls`, `code`, `sequential` and `runs` are the theorems.
 //! `wrong_table` is public to show that a table which meets the laws, and by which a call acts twice, is refused.
 //! The page is README.md.
 #![tactic(auto)]
@@ -12,10 +12,12 @@ ghost use Rattle.task_atomic.specs.Calls.{CallsEndByAnswers, CallsMakeTheirActs}
 ghost use Rattle.task_atomic.specs.CodeActs.{CallsAreActs, CellsAreRuns, DeedsAreActs};
 ghost use Rattle.task_atomic.specs.Deeds.{DeedsAreSteps};
 ghost use Rattle.task_atomic.specs.Finds.{RowsFind};
+ghost use Rattle.task_atomic.specs.Nesting.{CallsInTurnNest, NestedCallsAreWhole, WholeRunsNest};
 ghost use Rattle.task_atomic.specs.Paths.{PathsAreActs};
 ghost use Rattle.task_atomic.specs.Registered.{OpenTaskKeepsAwaiter, PendingIsRegistered};
 ghost use Rattle.task_atomic.specs.Runs.{CallsAreRuns};
 ghost use Rattle.task_atomic.specs.Tables.{CancelsAgain};
+ghost use Rattle.task_atomic.specs.Witnessed.{WitnessesExplain};
 ghost use Rattle.task_cell.specs.Handed.{HandedOver, PolledOnce};
 ghost use Rattle.task_laws.specs.Table.{rule};
 
@@ -56,16 +58,26 @@ where
     Q: Schedule<Runnable<R, F, Q, M, A, X, B>>,
     F: Future<TaskWaker<R, F, Q, M, A, X, B>>,
     ensures deeds { DeedsAreSteps }
-    ensures paths { (cell : _) (around : _) → PathsAreActs (HandedOver Q.scheduled cell around) (PolledOnce F.polled cell around) ((a : A) × A.woken a) A.cloned A.woken A.woken_by_ref A.compared }
+    ensures paths { (cell : _) (around : _) → PathsAreActs (HandedOver Q.scheduled cell around) (PolledOnce F.polled cell around) ((a : A) × (r : A.Record) × A.woken a r) A.cloned A.woken A.woken_by_ref A.compared }
 {}
 
 /// Wherever the rule of a cell holds, its interleaving is a run of the small task that ends in the present word, in which each party of a seat did last
 /// what the seat knows (`cells`). In it a deed is its act, made at that moment (`deeds`), and a call made the acts of its path, in their order, between
-/// its first deed and its answer (`calls`).
+/// its first deed and its answer (`calls`). A caller that has a witness, as `Task::witness` gives, has that for its task and its calls (`witnesses`).
 pub fn code<F, T, A>()
     ensures cells { CellsAreRuns F T A }
     ensures deeds { DeedsAreActs }
     ensures calls { CallsAreActs }
+    ensures witnesses { WitnessesExplain }
+{}
+
+/// An interleaving of the rule in which calls nest, so that none is made while another is open, but where that one runs foreign code, is a whole run of
+/// the machine, and so a run of the abstract task (`nested`); no other is a whole run (`whole`). Deeds and their parties show whether calls nest, and calls
+/// that are made one after another do (`turns`).
+pub fn sequential()
+    ensures nested { NestedCallsAreWhole }
+    ensures whole { WholeRunsNest }
+    ensures turns { CallsInTurnNest }
 {}
 
 /// Every list of calls of a `LocalTask`, each made where its condition holds, is a run of the abstract task, with the same answers, Runnables, ends and

@@ -22,3 +22,4 @@ pub mod WakerCalls
 pub mod PollSeen
 pub mod PollTried
 pub mod PollStores
+pub mod Witnessed

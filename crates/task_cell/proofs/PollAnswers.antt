@@ -37,7 +37,7 @@ module _ {F T A : Type 0} where
   pub saw_end : (w : State) (p q : Party F T A) → SeenAgain p q (Err w) → has_to_wait w ≡ false → (has_ended w ≡ true) × Did (row Look w ∷ []) (Notifier (OfPoll (poll_number (position p)))) p q
   saw_end w p q s f = ⊎_elim (λ x. never (sym f ∙ x.0)) (λ x. (x.1, x.2)) s
 
-  module _ (cloned : A → Option A → Type 0) (woken woken_by_ref : A → Type 0) (compared : A → A → Bool → Type 0) (awaiter : A) where
+  module _ {K : Type 0} (cloned : A → Result A K → Type 0) (woken woken_by_ref : A → K → Type 0) (compared : A → A → Bool → Type 0) (awaiter : A) where
     abbrev pub Answers : ℕ → TaskPoll (Option T) → Party F T A → Party F T A → Type 0
     Answers n answer p r = (path : List Deed) × AnswerPath woken compared awaiter path answer × Did path (as_task n) p r
 
@@ -65,17 +65,17 @@ module _ {F T A : Type 0} where
     -- what the registering came to
     abbrev pub Came : Party F T A → Party F T A → Bool → Type 0
     Came p q true = (path : List Deed) × RegisterPath cloned woken woken_by_ref awaiter path × Did path (Looking (poll_number (position p))) p q
-    Came p q false = cloned awaiter None × Did (act RefuseClone ∷ act EndCall ∷ []) (ends (position p)) p q
+    Came p q false = (told : K) × cloned awaiter (Err told) × Did (act RefuseClone ∷ act EndCall ∷ []) (ends (position p)) p q
 
     came_by : (p q : Party F T A) (b : Bool) → Registers cloned woken woken_by_ref awaiter p q b → Came p q b
     came_by p q true (is_registered path r g) = (path, r, g)
-    came_by p q false (clone_refused c g) = (c, g)
+    came_by p q false (clone_refused told c g) = (told, c, g)
 
     pub came : (p q : Party F T A) (b c : Bool) → Registers cloned woken woken_by_ref awaiter p q b → b ≡ c → Came p q c
     came p q b c r e = came_by p q c (subst (λ b. Registers cloned woken woken_by_ref awaiter p q b) e r)
 
     pub polled_refused : (w : State) (n : ℕ) (p q r : Party F T A) → has_output w ≡ false → has_ended w ≡ false → Did (row Look w ∷ []) (Registrar n) p q → Came q r false → Polled n Refused p r
-    polled_refused w n p q r e f g h = (row Look w ∷ act RefuseClone ∷ act EndCall ∷ [], paths.is_refused w e f h.0, then_goes p q r (row Look w ∷ []) (act RefuseClone ∷ act EndCall ∷ []) (Registrar n) [] [] ends g h.1)
+    polled_refused w n p q r e f g h = (row Look w ∷ act RefuseClone ∷ act EndCall ∷ [], paths.is_refused w h.0 e f h.1, then_goes p q r (row Look w ∷ []) (act RefuseClone ∷ act EndCall ∷ []) (Registrar n) [] [] ends g h.2)
 
     pub is_looking : (w : State) (n : ℕ) (path : List Deed) (p q r : Party F T A) → Did (row Look w ∷ []) (Registrar n) p q → Did path (Looking (poll_number (position q))) q r → Did ((row Look w ∷ []) ++ path) (Looking n) p r
     is_looking w n path p q r g h = then_goes p q r (row Look w ∷ []) path (Registrar n) [] [] (λ x. Looking (poll_number x)) g h

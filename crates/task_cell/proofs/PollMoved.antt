@@ -3,13 +3,13 @@ use Rattle.std.proofs.Common.{inl}
 use Rattle.task_cell.proofs.Vocabulary.{◌≡◌, ℕ, ◌+◌, Bool, true, false, not, ◌&&◌, ◌||◌, Option, Some, None, List, [], ◌∷◌, refl, sym, ap, ◌∙◌, subst, map, if◌then◌else◌, Result, Ok, Err}
 use Rattle.task_cell.proofs.Vocabulary.{IfOk, IfErr, Me, State, Position, TaskPollBegins, IsPending, OfPoll, OfClaim, Looking, SawOutput, Answering, Notifier, Registrar}
 use Rattle.task_cell.proofs.Vocabulary.{UnusedClone, Registered, TookBack, CloneInHand, Act, Look, CloneAwaiter, StoreAwaiter, FindNotify, BeginRegister, EndRegister, EndRegisterNotified, TakeAwaiter}
-use Rattle.task_cell.proofs.Vocabulary.{ClaimOutput, EndCall, Slots, Outcome, leaves_slots, changes_slots, when, notifies, first_look, after_storing, owns_awaiter, Slot, Deed, View, Party, member}
-use Rattle.task_cell.proofs.Vocabulary.{view, fresh, has_work, Waits, head_of, and_then, spot, held_word, next_of, born_of, leaves_by, noted, acted, output_first, TakesOutput, Carries, Carried, Makes}
+use Rattle.task_cell.proofs.Vocabulary.{ClaimOutput, EndCall, Slots, Outcome, leaves_slots, changes_slots, when, notifies, first_look, after_storing, owns_awaiter, Deed, View, Party, member}
+use Rattle.task_cell.proofs.Vocabulary.{view, fresh, has_work, Waits, head_of, and_then, spot, held_word, next_of, born_of, leaves_by, noted, acted, TakesOutput, Carries, Carried, Makes}
 use Rattle.task_cell.proofs.Vocabulary.{saw_ended, position, deeds, limit_of, StandsWith, Stands, DidWith, Did, after, row, act, has_output, has_ended, has_to_wait}
 use Rattle.task_cell.proofs.Vocabulary.{ClaimsOutput, Looks, claims_output, sees_none, LooksAgain}
-use Rattle.task_cell.proofs.Vocabulary.{claims_output_now, has_to_wait_on, sees_end, BeginsRegister, begins, finds_one, EndsRegister, ends, finds_notified, as_task, poll_number, Empty, Awaiter}
+use Rattle.task_cell.proofs.Vocabulary.{claims_output_now, has_to_wait_on, sees_end, BeginsRegister, begins, finds_one, EndsRegister, ends, finds_notified, as_task, poll_number}
 use Rattle.task_cell.proofs.Vocabulary.{MayTry, HasChanged, HasEnded, first_free, has_waited, sees_output, looks, looks_again, begins_register, ends_register, takes_back, claims, claims_again}
-use Rattle.task_cell.proofs.Vocabulary.{finds_notifier, not_true, left_true}
+use Rattle.task_cell.proofs.Vocabulary.{finds_notifier, not_true, left_true, TaskPlace, work_first, awaiter_first}
 use Rattle.task_steps.specs.PollScripts.{to_look, to_look_again, to_begin_register, to_end_register}
 use Rattle.task_cell.proofs.Moved.{position_is, held_is, stands, did_then}
 use Rattle.task_steps.specs.Shares.{MayBring}
@@ -26,12 +26,12 @@ finds_end i false busy false e f = absurd (cc)
 
 module _ {F T A : Type 0} where
   -- the seat after acts that lead to this position, and add no party
-  went : (acts : List Act) (w : State) (at at' : Position) (held : List (ℕ × Slot F T A)) (path : List Deed) (p q : Party F T A) → StandsWith at held p → q.seat.block ≡ p.seat.block → (m : Makes acts w p.seat.me q.seat.me)
+  went : (acts : List Act) (w : State) (at at' : Position) (held : List (ℕ × TaskPlace F T A)) (path : List Deed) (p q : Party F T A) → StandsWith at held p → q.seat.block ≡ p.seat.block → (m : Makes acts w p.seat.me q.seat.me)
       → next_of (leaves_by (limit_of p) w m.slots acts at) ≡ at' → born_of (leaves_by (limit_of p) w m.slots acts at) ≡ [] → noted w acts (deeds p) ≡ after path (deeds p)
       → Carried at at' held q.seat.me.1 × DidWith path at' q.seat.me.1 p q
   went acts w at at' held path p q s cell m to none is = let viewed = m.viewed ∙ ap (λ x. acted w m.slots acts x.0) s in (
-    subst (λ (z : Position × Position × List (ℕ × Slot F T A)). Carried z.0 z.1 z.2 q.seat.me.1)
-        (λ i. (ap (λ (x : Me (Slot F T A) View). (head_of x.0.members).at) s i, (ap (λ (v : View). (head_of v.members).at) viewed ∙ to) i, ap (λ (x : Me (Slot F T A) View). x.1) s i)) m.carried,
+    subst (λ (z : Position × Position × List (ℕ × TaskPlace F T A)). Carried z.0 z.1 z.2 q.seat.me.1)
+        (λ i. (ap (λ (x : Me (TaskPlace F T A) View). (head_of x.0.members).at) s i, (ap (λ (v : View). (head_of v.members).at) viewed ∙ to) i, ap (λ (x : Me (TaskPlace F T A) View). x.1) s i)) m.carried,
     record {
       cell = cell;
       is = λ i. ((viewed ∙ (λ j. view (limit_of p) (member (to j) (is j) ∷ map fresh (none j)))) i, q.seat.me.1);
@@ -45,7 +45,7 @@ module _ {F T A : Type 0} where
       finds_one w e.at_end (subst (λ at. Did path (UnusedClone (poll_number at)) p q) (sym (position_is p (Registrar i) [] s)) (subst (λ l. DidWith path (UnusedClone i) l p q) g.0 g.1))
 
   -- the slot that is taken, by what stood in it
-  carried_slot : (i : ℕ) (hand : Option ℕ) (l' : List (ℕ × Slot F T A)) → Carried (Registrar i) (after_storing i hand) [] l' → (y : Slot F T A) × Waits hand y × (l' ≡ (2, y) ∷ [])
+  carried_slot : (i : ℕ) (hand : Option ℕ) (l' : List (ℕ × TaskPlace F T A)) → Carried (Registrar i) (after_storing i hand) [] l' → (y : Option A) × Waits hand y × (l' ≡ awaiter_first y [])
   carried_slot i None l' c = c
   carried_slot i (Some old) l' c = c
 
@@ -54,36 +54,36 @@ module _ {F T A : Type 0} where
       let path : List Deed = act CloneAwaiter ∷ row BeginRegister w ∷ act StoreAwaiter ∷ [] in let hand : Option ℕ = m.slots.awaiter in
       let g = went (CloneAwaiter ∷ BeginRegister ∷ StoreAwaiter ∷ []) w (Registrar i) (after_storing i hand) [] path p q s cell m refl refl refl in
       let y = carried_slot i hand q.seat.me.1 g.0 in
-      begins w hand y.0 (not_true w.notifying c.applied) y.1 (subst (λ at. DidWith path (after_storing (poll_number at) hand) ((2, y.0) ∷ []) p q) (sym (position_is p (Registrar i) [] s)) (subst (λ l. DidWith path (after_storing i hand) l p q) y.2 g.1))
+      begins w hand y.0 (not_true w.notifying c.applied) y.1 (subst (λ at. DidWith path (after_storing (poll_number at) hand) (awaiter_first y.0 []) p q) (sym (position_is p (Registrar i) [] s)) (subst (λ l. DidWith path (after_storing i hand) l p q) y.2 g.1))
 
   -- the slot is given back
-  pub ended : (limit i : ℕ) (r : Unit {0}) (y : Slot F T A) (p q : Party F T A) → StandsWith (Registered i) ((2, y) ∷ []) p → q.seat.block ≡ p.seat.block → HasChanged limit to_end_register r p.seat.me q.seat.me → EndsRegister p q true
+  pub ended : (limit i : ℕ) (r : Unit {0}) (y : Option A) (p q : Party F T A) → StandsWith (Registered i) (awaiter_first y []) p → q.seat.block ≡ p.seat.block → HasChanged limit to_end_register r p.seat.me q.seat.me → EndsRegister p q true
   ended limit i r y p q s cell c = let m = c.made in let w = c.word in
       let path : List Deed = row EndRegister w ∷ [] in
-      let g = went (EndRegister ∷ []) w (Registered i) (Looking i) ((2, y) ∷ []) path p q s cell m refl refl refl in
-      ends w (not_true w.notifying c.applied) (subst (λ at. Did path (Looking (poll_number at)) p q) (sym (position_is p (Registered i) ((2, y) ∷ []) s)) (subst (λ l. DidWith path (Looking i) l p q) g.0 g.1))
+      let g = went (EndRegister ∷ []) w (Registered i) (Looking i) (awaiter_first y []) path p q s cell m refl refl refl in
+      ends w (not_true w.notifying c.applied) (subst (λ at. Did path (Looking (poll_number at)) p q) (sym (position_is p (Registered i) (awaiter_first y []) s)) (subst (λ l. DidWith path (Looking i) l p q) g.0 g.1))
 
   -- the slot is given back without the clone, which was taken out of it
-  pub given_back : (i : ℕ) (w : State) (y : Slot F T A) (p q r : Party F T A) → StandsWith (TookBack i) ((2, y) ∷ []) p → DidWith [] (TookBack i) ((2, Empty) ∷ []) p q → r.seat.block ≡ q.seat.block → Makes (EndRegisterNotified ∷ []) w q.seat.me r.seat.me
+  pub given_back : (i : ℕ) (w : State) (y : Option A) (p q r : Party F T A) → StandsWith (TookBack i) (awaiter_first y []) p → DidWith [] (TookBack i) (awaiter_first None []) p q → r.seat.block ≡ q.seat.block → Makes (EndRegisterNotified ∷ []) w q.seat.me r.seat.me
       → (v : State) × (v.notifying ≡ true) × Did (row EndRegisterNotified v ∷ []) (CloneInHand (poll_number (position p))) p r
-  given_back i w y p q r s took cell m = let path : List Deed = row EndRegisterNotified w ∷ [] in let held : List (ℕ × Slot F T A) = (2, Empty) ∷ [] in
+  given_back i w y p q r s took cell m = let path : List Deed = row EndRegisterNotified w ∷ [] in let held : List (ℕ × TaskPlace F T A) = awaiter_first None [] in
       let g = went (EndRegisterNotified ∷ []) w (TookBack i) (CloneInHand i) held path q r (stands p q [] (TookBack i) held took) cell m refl refl refl in (
         w,
         left_true w.notifying true m.fits,
-        subst (λ at. Did path (CloneInHand (poll_number at)) p r) (sym (position_is p (TookBack i) ((2, y) ∷ []) s)) (did_then p q r [] path (TookBack i) (CloneInHand i) held [] took (subst (λ l. DidWith path (CloneInHand i) l q r) g.0 g.1)),
+        subst (λ at. Did path (CloneInHand (poll_number at)) p r) (sym (position_is p (TookBack i) (awaiter_first y []) s)) (did_then p q r [] path (TookBack i) (CloneInHand i) held [] took (subst (λ l. DidWith path (CloneInHand i) l q r) g.0 g.1)),
       )
 
   -- a notifier came meanwhile, and the clone is taken back
-  pub notified : (limit i : ℕ) (w : State) (y : Slot F T A) (p q : Party F T A) → StandsWith (Registered i) ((2, y) ∷ []) p → q.seat.block ≡ p.seat.block → HasEnded limit to_end_register w p.seat.me q.seat.me → EndsRegister p q false
-  notified limit i w y p q s cell e = let m = e.made in let path : List Deed = act TakeAwaiter ∷ [] in let held : List (ℕ × Slot F T A) = (2, y) ∷ [] in
+  pub notified : (limit i : ℕ) (w : State) (y : Option A) (p q : Party F T A) → StandsWith (Registered i) (awaiter_first y []) p → q.seat.block ≡ p.seat.block → HasEnded limit to_end_register w p.seat.me q.seat.me → EndsRegister p q false
+  notified limit i w y p q s cell e = let m = e.made in let path : List Deed = act TakeAwaiter ∷ [] in let held : List (ℕ × TaskPlace F T A) = awaiter_first y [] in
       let to : (f : Option Outcome → Position) → f (leaves_by (limit_of p) w m.slots (TakeAwaiter ∷ []) (Registered i)) ≡ f (Some (changes_slots (spot (limit_of p) (held_word (Registered i) w) m.slots) w (record (m.slots) { awaiter = None }) (TookBack i) [])) = λ f.
       ap (λ (b : Bool). f (and_then (when b (changes_slots (spot (limit_of p) (held_word (Registered i) w) m.slots) w (record (m.slots) { awaiter = None }) (TookBack i) [])) (λ o. leaves_by (limit_of p) o.word o.slots [] o.next))) e.at_end in
       let none : born_of (leaves_by (limit_of p) w m.slots (TakeAwaiter ∷ []) (Registered i)) ≡ [] = ap (λ (b : Bool). born_of (and_then (when b (changes_slots (spot (limit_of p) (held_word (Registered i) w) m.slots) w (record (m.slots) { awaiter = None }) (TookBack i) [])) (λ o. leaves_by (limit_of p) o.word o.slots [] o.next))) e.at_end in
       let g = went (TakeAwaiter ∷ []) w (Registered i) (TookBack i) held path p q s cell m (to next_of) none refl in
-      finds_notified (subst (λ (z : Position × List (ℕ × Slot F T A)). DidWith path (TookBack (poll_number z.0)) z.1 p q) (λ j. (sym (position_is p (Registered i) held s) j, sym (held_is p (Registered i) held s) j)) (subst (λ l. DidWith path (TookBack i) l p q) g.0 g.1))
+      finds_notified (subst (λ (z : Position × List (ℕ × TaskPlace F T A)). DidWith path (TookBack (poll_number z.0)) z.1 p q) (λ j. (sym (position_is p (Registered i) held s) j, sym (held_is p (Registered i) held s) j)) (subst (λ l. DidWith path (TookBack i) l p q) g.0 g.1))
 
   -- the places of the output, once it was claimed
-  carried_output : (b : Bool) (i : ℕ) (l : List (ℕ × Slot F T A)) → Carries false (has_work (notifies b (OfClaim i))) false (owns_awaiter (notifies b (OfClaim i))) (notifies b (OfClaim i)) [] l → TakesOutput [] l
+  carried_output : (b : Bool) (i : ℕ) (l : List (ℕ × TaskPlace F T A)) → Carries false (has_work (notifies b (OfClaim i))) false (owns_awaiter (notifies b (OfClaim i))) (notifies b (OfClaim i)) [] l → TakesOutput [] l
   carried_output true i l c = c
   carried_output false i l c = c
 
@@ -94,10 +94,10 @@ module _ {F T A : Type 0} where
     there = there;
     output = c.0;
     is_output = c.1;
-    did = subst (λ at. DidWith path (notifies w.awaiter (OfClaim (poll_number at))) (output_first c.0 []) p q) (sym (position_is p at [] s)) (subst (λ l. DidWith path (notifies w.awaiter (OfClaim (poll_number at))) l p q) c.2 g.1);
+    did = subst (λ at. DidWith path (notifies w.awaiter (OfClaim (poll_number at))) (work_first c.0 []) p q) (sym (position_is p at [] s)) (subst (λ l. DidWith path (notifies w.awaiter (OfClaim (poll_number at))) l p q) c.2 g.1);
   }
 
-  first_holds : (w : State) (n : ℕ) (l : List (ℕ × Slot F T A)) → Carried (as_task n) (first_look w (n + 1)) [] l → l ≡ []
+  first_holds : (w : State) (n : ℕ) (l : List (ℕ × TaskPlace F T A)) → Carried (as_task n) (first_look w (n + 1)) [] l → l ≡ []
   first_holds w n l c = let f = first_free w (n + 1) in subst (λ (z : Bool × Bool). Carries false z.0 false z.1 (first_look w (n + 1)) [] l) (λ j. (f.0 j, f.1 j)) c
 
   -- the first look of a poll
@@ -143,14 +143,14 @@ module _ {F T A : Type 0} where
 
 module _ (F T A : Type 0) (limit : ℕ) where
   -- the rule allows a poll to look, to take the awaiter slot, and to give it back
-  pub may_register : (p : Party F T A) (i : ℕ) → Stands (Registrar i) p → MayTry limit 3 p.seat.id p.seat.me to_begin_register × MayBring limit p.seat.id p.seat.me to_begin_register
+  pub may_register : (p : Party F T A) (i : ℕ) → Stands (Registrar i) p → MayTry limit 2 p.seat.id p.seat.me to_begin_register × MayBring limit p.seat.id p.seat.me to_begin_register
   may_register p i s = may_bring_at limit p (Registrar i) [] s to_begin_register (λ w. refl) (begins_register F T A limit i (deeds p) [] []) (λ m f fits. inl (refl, refl)) (finds_notifier F T A limit i (deeds p) [] [])
 
-  pub may_give_back : (p : Party F T A) (i : ℕ) (a : A) → StandsWith (Registered i) ((2, Awaiter a) ∷ []) p → MayTry limit 3 p.seat.id p.seat.me to_end_register × MayBring limit p.seat.id p.seat.me to_end_register
-  may_give_back p i a s = let held : List (ℕ × Slot F T A) = (2, Awaiter a) ∷ [] in may_bring_at limit p (Registered i) held s to_end_register (λ w. refl) (ends_register F T A limit i (deeds p) [] (Awaiter a) held refl tt) (λ m f fits. inl (refl, refl)) (takes_back F T A limit i (deeds p) [] held)
+  pub may_give_back : (p : Party F T A) (i : ℕ) (a : A) → StandsWith (Registered i) (awaiter_first (Some a) []) p → MayTry limit 2 p.seat.id p.seat.me to_end_register × MayBring limit p.seat.id p.seat.me to_end_register
+  may_give_back p i a s = let held : List (ℕ × TaskPlace F T A) = awaiter_first (Some a) [] in may_bring_at limit p (Registered i) held s to_end_register (λ w. refl) (ends_register F T A limit i (deeds p) [] a held refl) (λ m f fits. inl (refl, refl)) (takes_back F T A limit i (deeds p) [] held)
 
-  pub may_look : (p : Party F T A) (n : ℕ) → Stands (as_task n) p → MayTry limit 3 p.seat.id p.seat.me to_look × MayBring limit p.seat.id p.seat.me to_look
+  pub may_look : (p : Party F T A) (n : ℕ) → Stands (as_task n) p → MayTry limit 2 p.seat.id p.seat.me to_look × MayBring limit p.seat.id p.seat.me to_look
   may_look p n s = may_bring_at limit p (as_task n) [] s to_look (λ w. refl) (claims F T A limit n (deeds p) [] []) (λ m f fits. inl (refl, refl)) (looks F T A limit n (deeds p) [] [])
 
-  pub may_look_again : (p : Party F T A) (i : ℕ) → Stands (Looking i) p → MayTry limit 3 p.seat.id p.seat.me to_look_again × MayBring limit p.seat.id p.seat.me to_look_again
+  pub may_look_again : (p : Party F T A) (i : ℕ) → Stands (Looking i) p → MayTry limit 2 p.seat.id p.seat.me to_look_again × MayBring limit p.seat.id p.seat.me to_look_again
   may_look_again p i s = may_bring_at limit p (Looking i) [] s to_look_again (λ w. refl) (claims_again F T A limit i (deeds p) [] []) (λ m f fits. inl (refl, refl)) (looks_again F T A limit i (deeds p) [] [])

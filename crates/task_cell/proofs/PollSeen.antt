@@ -1,7 +1,7 @@
 -- What a poll has seen of the task's end, and what an earlier poll has seen.
-use Rattle.task_cell.proofs.Vocabulary.{◌≡◌, Bool, true, false, List, [], ◌∷◌, ◌++◌, Option, None, sym, ap, subst, Result, Err, Me, State, TaskPoll, Position, Look, EndCall, Slot, Deed, View, Party}
+use Rattle.task_cell.proofs.Vocabulary.{◌≡◌, Bool, true, false, List, [], ◌∷◌, ◌++◌, Option, None, sym, ap, subst, Result, Err, Me, State, TaskPoll, Position, Look, EndCall, Deed, View, Party}
 use Rattle.task_cell.proofs.Vocabulary.{row, act, after, head_of, leaves_such, saw, saw_ended, has_output, has_ended, deeds, DidWith, AnswerPath, waits, has_ended_since, has_output_since, PollPath}
-use Rattle.task_cell.proofs.Vocabulary.{finds_output, finds_ended, true_left, true_right, arith}
+use Rattle.task_cell.proofs.Vocabulary.{finds_output, finds_ended, true_left, true_right, arith, TaskPlace}
 use Rattle.task_core.specs.declared.traits.TaskPoll.TheVariants.{Ready}
 use Rattle.task_cell.specs.PollPaths.{is_refused, looks_again}
 use Rattle.task_cell.proofs.Moved.{after-append}
@@ -17,9 +17,9 @@ looked w path earlier e = saw_after has_ended path (row Look w ∷ earlier) (tru
 
 -- the deeds of a party after a path
 pub deeds_after : {F V A : Type 0} (p q : Party F V A) (path : List Deed) (at : Position) → DidWith path at [] p q → deeds q ≡ after path (deeds p)
-deeds_after {F} {V} {A} p q path at g = ap (λ (m : Me (Slot F V A) View). (head_of m.0.members).deeds) g.is
+deeds_after {F} {V} {A} p q path at g = ap (λ (m : Me (TaskPlace F V A) View). (head_of m.0.members).deeds) g.is
 
-module _ {A T : Type 0} (cloned : A → Option A → Type 0) (woken woken_by_ref : A → Type 0) (compared : A → A → Bool → Type 0) (awaiter : A) where
+module _ {A K T : Type 0} (cloned : A → Result A K → Type 0) (woken woken_by_ref : A → K → Type 0) (compared : A → A → Bool → Type 0) (awaiter : A) where
   answer_saw : (path : List Deed) (answer : TaskPoll (Option T)) (earlier : List Deed) → AnswerPath woken compared awaiter path answer → answer ≡ Ready None → saw_ended (after path earlier) ≡ true
   answer_saw _ _ earlier (waits w e) is = absurd (cc)
   answer_saw _ _ earlier (has_ended_since w taken e t) is = looked w (taken ++ act EndCall ∷ []) earlier e
@@ -29,7 +29,7 @@ module _ {A T : Type 0} (cloned : A → Option A → Type 0) (woken woken_by_ref
   path_saw : (path : List Deed) (answer : TaskPoll (Option T)) (earlier : List Deed) → PollPath cloned woken woken_by_ref compared awaiter path answer → answer ≡ Ready None → saw_ended (after path earlier) ≡ true
   path_saw _ _ earlier (finds_output w path x c) is = absurd (cc)
   path_saw _ _ earlier (finds_ended w taken e t) is = looked w (taken ++ act EndCall ∷ []) earlier e
-  path_saw _ _ earlier (is_refused w e e' c) is = absurd (cc)
+  path_saw _ _ earlier (is_refused w told e e' c) is = absurd (cc)
   path_saw _ _ earlier (looks_again w registered path answer e e' r a) is =
       subst (λ l. saw_ended l ≡ true) (sym (after-append (row Look w ∷ registered) path earlier)) (answer_saw path answer (after (row Look w ∷ registered) earlier) a is)
 

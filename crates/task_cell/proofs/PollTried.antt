@@ -1,6 +1,6 @@
 -- What the looks of a poll come to that are tried at most so many times, and the clone that is put in.
-use Rattle.task_cell.proofs.Vocabulary.{◌≡◌, ℕ, true, Option, Some, None, List, [], ◌∷◌, sym, ap, ◌∙◌, Result, Err, IfOk, IfErr, IfSome, State, Looking, after_storing, Slot, Awaiter, Party, Waits}
-use Rattle.task_cell.proofs.Vocabulary.{saw_ended, deeds, Stands, DidWith, has_ended, as_task, HasChanged, HasEnded, Looks, LooksAgain, held, awaiter_in}
+use Rattle.task_cell.proofs.Vocabulary.{◌≡◌, ℕ, true, Option, Some, None, [], sym, ◌∙◌, Result, Err, IfOk, IfErr, IfSome, State, Looking, after_storing, Party, Waits}
+use Rattle.task_cell.proofs.Vocabulary.{saw_ended, deeds, Stands, DidWith, has_ended, as_task, HasChanged, HasEnded, Looks, LooksAgain, held, awaiter_first}
 use Rattle.task_steps.specs.PollScripts.{to_look, to_look_again}
 use Rattle.task_cell.proofs.Notified.{there}
 use Rattle.task_cell.proofs.PollMoved.{looks_so, looks_again_so, finds_it_ended}
@@ -25,5 +25,5 @@ module _ {F T A : Type 0} where
   tried_look_again limit i (Some x) p q s cell c e = looks_again_so limit i x p q s cell c e
 
   -- the clone was put in, over what stood there
-  pub put : (i : ℕ) (hand : Option ℕ) (y x : Slot F T A) (clone : A) (p q : Party F T A) (found : Option (Held A)) → Waits hand y → (y ≡ x) × DidWith [] (after_storing i hand) ((2, Awaiter clone) ∷ []) p q → held found ≡ awaiter_in x → PutsClone i hand clone p q found
-  put i hand y x clone p q found waits g is = (there hand y found waits (is ∙ ap awaiter_in (sym g.0)), g.1)
+  pub put : (i : ℕ) (hand : Option ℕ) (y x : Option A) (clone : A) (p q : Party F T A) (found : Option (Held A)) → Waits hand y → (y ≡ x) × DidWith [] (after_storing i hand) (awaiter_first (Some clone) []) p q → held found ≡ x → PutsClone i hand clone p q found
+  put i hand y x clone p q found waits g is = (there hand y found waits (is ∙ sym g.0), g.1)

@@ -1,13 +1,13 @@
 -- What the steps of a run and of a Runnable's drop come to.
 use Rattle.std.proofs.Common.{inl}
-use Rattle.task_cell.proofs.Vocabulary.{◌≡◌, ℕ, Bool, true, false, not, ◌||◌, List, [], ◌∷◌, Option, Some, None, refl, sym, ap, ◌∙◌, subst, if◌then◌else◌, nat_lt, turned, State, Answer}
-use Rattle.task_cell.proofs.Vocabulary.{Ran, Runnable, Ended, OfRun, ThenEnds, DroppedRunnable, Position, At, Deliverer, GivingUp, Emptier, FutureInHand, Polling, Pending, Ready, PendingFutureDropped}
+use Rattle.task_cell.proofs.Vocabulary.{◌≡◌, ℕ, Bool, true, false, not, ◌||◌, List, [], ◌∷◌, Option, Some, None, refl, sym, ap, ◌∙◌, subst, if◌then◌else◌, nat_lt, State, Answer}
+use Rattle.task_cell.proofs.Vocabulary.{Ran, Runnable, Ended, OfRun, ThenEnds, DroppedRunnable, Position, At, Deliverer, GivingUp, Emptier, FutureGone, Polling, Pending, ReadyFutureDropped, PendingFutureDropped}
 use Rattle.task_cell.proofs.Vocabulary.{OutputInHand, Act, GiveUpReference, GiveUpLastReference, EmptySlots, DiscardOpen, DiscardClosed, AnswerReady, AnswerPending, DropFuture, StoreOutput, Complete}
 use Rattle.task_cell.proofs.Vocabulary.{CompleteDetached, DropOutput, EndClosed, Reschedule, EndIdle, EndCall, EndOrphaned, found, written, after_giving_up, notifies, Slot, Empty, Deed, Party, Rescheduled}
-use Rattle.task_cell.proofs.Vocabulary.{Idle, Orphaned, IsFuture, IsOutput, future_first, output_first, Makes, Carried, all_fit, left_true, dropping_output, StandsWith, Stands, DidWith, Did}
+use Rattle.task_cell.proofs.Vocabulary.{Idle, Orphaned, IsFuture, IsOutput, Makes, Carried, all_fit, left_true, dropping_output, StandsWith, Stands, DidWith, Did}
 use Rattle.task_cell.proofs.Vocabulary.{limit_of, deeds, row, act, DiscardStart, found_open, found_closed, GivesUp, not_last, last, Releases, Completes, keeps, finds_detached, AnswersPending}
 use Rattle.task_cell.proofs.Vocabulary.{stays_pending, clears, EndsPending, is_rescheduled, is_idle, is_orphaned, given_work, given_free, due_work, closed_already, completes, ends_pending}
-use Rattle.task_cell.proofs.Vocabulary.{MayTry, HasChanged, HasEnded, never_ends, not_true, arith}
+use Rattle.task_cell.proofs.Vocabulary.{MayTry, HasChanged, HasEnded, never_ends, not_true, arith, TaskPlace, work_first, awaiter_first}
 use Rattle.task_steps.specs.declared.run.PendingEnd.{PendingEnd}
 use Rattle.std.specs.Prelude.{is_some}
 use Rattle.task_core.specs.Rows.{row as row_of}
@@ -38,15 +38,15 @@ alone_fits a limit w e = left_true (found limit a w) true e
 
 module _ {F T A : Type 0} where
   pub discarded : (p q : Party F T A) (w : State) → Stands (At Runnable) p → q.seat.block ≡ p.seat.block → Makes (discarding w) w p.seat.me q.seat.me
-      → (d : Deed) × (y : Slot F T A) × DiscardStart d × DidWith (d ∷ []) (FutureInHand DroppedRunnable) (future_first y []) p q × IsFuture y
+      → (d : Deed) × (y : Slot F T) × DiscardStart d × DidWith (d ∷ act DropFuture ∷ []) (FutureGone DroppedRunnable) (work_first y []) p q × IsFuture y
   discarded p q w s cell made = by w.closed refl made
     where
-      by : (b : Bool) → w.closed ≡ b → Makes (if b then DiscardClosed ∷ [] else DiscardOpen ∷ []) w p.seat.me q.seat.me
-          → (d : Deed) × (y : Slot F T A) × DiscardStart d × DidWith (d ∷ []) (FutureInHand DroppedRunnable) (future_first y []) p q × IsFuture y
-      by true h made = let m = moved.moved (DiscardClosed ∷ []) w (At Runnable) [] p q s made in let y = took_work (At Runnable) (FutureInHand DroppedRunnable) [] q.seat.me.1 refl refl m.carried in
-          (row DiscardClosed w, y.0, found_closed w h, moved.did p q (row DiscardClosed w ∷ []) (FutureInHand DroppedRunnable) (future_first y.0 []) cell m.viewed y.2, y.1)
-      by false h made = let m = moved.moved (DiscardOpen ∷ []) w (At Runnable) [] p q s made in let y = took_work (At Runnable) (FutureInHand DroppedRunnable) [] q.seat.me.1 refl refl m.carried in
-          (row DiscardOpen w, y.0, found_open w h, moved.did p q (row DiscardOpen w ∷ []) (FutureInHand DroppedRunnable) (future_first y.0 []) cell m.viewed y.2, y.1)
+      by : (b : Bool) → w.closed ≡ b → Makes (if b then DiscardClosed ∷ DropFuture ∷ [] else DiscardOpen ∷ DropFuture ∷ []) w p.seat.me q.seat.me
+          → (d : Deed) × (y : Slot F T) × DiscardStart d × DidWith (d ∷ act DropFuture ∷ []) (FutureGone DroppedRunnable) (work_first y []) p q × IsFuture y
+      by true h made = let m = moved.moved (DiscardClosed ∷ DropFuture ∷ []) w (At Runnable) [] p q s made in let y = took_work (At Runnable) (FutureGone DroppedRunnable) [] q.seat.me.1 refl refl m.carried in
+          (row DiscardClosed w, y.0, found_closed w h, moved.did p q (row DiscardClosed w ∷ act DropFuture ∷ []) (FutureGone DroppedRunnable) (work_first y.0 []) cell m.viewed y.2, y.1)
+      by false h made = let m = moved.moved (DiscardOpen ∷ DropFuture ∷ []) w (At Runnable) [] p q s made in let y = took_work (At Runnable) (FutureGone DroppedRunnable) [] q.seat.me.1 refl refl m.carried in
+          (row DiscardOpen w, y.0, found_open w h, moved.did p q (row DiscardOpen w ∷ act DropFuture ∷ []) (FutureGone DroppedRunnable) (work_first y.0 []) cell m.viewed y.2, y.1)
 
   pub gave_up : (hand : Option ℕ) (answer : Answer) (p q : Party F T A) (w : State) → Stands (GivingUp hand answer) p → q.seat.block ≡ p.seat.block → Makes (giving_up w) w p.seat.me q.seat.me
       → GivesUp hand answer p q (not (nat_lt 1 w.references || w.task))
@@ -56,27 +56,27 @@ module _ {F T A : Type 0} where
       by true is made = let m = moved.moved (GiveUpReference ∷ []) w (GivingUp hand answer) [] p q s made in
           not_last w is (moved.did p q (row GiveUpReference w ∷ []) (after_giving_up hand answer) [] cell m.viewed (keeps_places (GivingUp hand answer) (after_giving_up hand answer) [] q.seat.me.1 (given_work hand answer) (given_free hand answer) m.carried))
       by false is made = let m = moved.moved (GiveUpLastReference ∷ []) w (GivingUp hand answer) [] p q s made in let y = took_awaiter (GivingUp hand answer) (Emptier hand answer) [] q.seat.me.1 refl refl refl m.carried in
-          last w y.0 (alone_fits GiveUpLastReference (limit_of p) w made.fits) (moved.did p q (row GiveUpLastReference w ∷ []) (Emptier hand answer) ((2, y.0) ∷ []) cell m.viewed y.2)
+          last w y.0 (alone_fits GiveUpLastReference (limit_of p) w made.fits) (moved.did p q (row GiveUpLastReference w ∷ []) (Emptier hand answer) (awaiter_first y.0 []) cell m.viewed y.2)
 
   pub gives_cell : (hand : Option ℕ) (answer : Answer) (p q : Party F T A) (b : Bool) → GivesUp hand answer p q b → q.seat.block ≡ p.seat.block
   gives_cell hand answer p q true (last w y f g) = g.cell
   gives_cell hand answer p q false (not_last w f g) = g.cell
 
-  pub last_stands : (hand : Option ℕ) (answer : Answer) (p q : Party F T A) (b : Bool) → GivesUp hand answer p q b → b ≡ true → (y : Slot F T A) × StandsWith (Emptier hand answer) ((2, y) ∷ []) q
-  last_stands hand answer p q true (last w y f g) e = (y, moved.stands p q (row GiveUpLastReference w ∷ []) (Emptier hand answer) ((2, y) ∷ []) g)
+  pub last_stands : (hand : Option ℕ) (answer : Answer) (p q : Party F T A) (b : Bool) → GivesUp hand answer p q b → b ≡ true → (y : Option A) × StandsWith (Emptier hand answer) (awaiter_first y []) q
+  last_stands hand answer p q true (last w y f g) e = (y, moved.stands p q (row GiveUpLastReference w ∷ []) (Emptier hand answer) (awaiter_first y []) g)
   last_stands hand answer p q false (not_last w f g) e = absurd (cc)
 
-  pub emptied : (hand : Option ℕ) (answer : Answer) (y : Slot F T A) (p q : Party F T A) (w : State) → StandsWith (Emptier hand answer) ((2, y) ∷ []) p → q.seat.block ≡ p.seat.block → Makes (emptying w) w p.seat.me q.seat.me
+  pub emptied : (hand : Option ℕ) (answer : Answer) (y : Option A) (p q : Party F T A) (w : State) → StandsWith (Emptier hand answer) (awaiter_first y []) p → q.seat.block ≡ p.seat.block → Makes (emptying w) w p.seat.me q.seat.me
       → Did (act EmptySlots ∷ []) (after_giving_up hand answer) p q
-  emptied hand answer y p q w s cell made = let m = moved.moved (EmptySlots ∷ []) w (Emptier hand answer) ((2, y) ∷ []) p q s made in
-      moved.did p q (act EmptySlots ∷ []) (after_giving_up hand answer) [] cell m.viewed (gave_awaiter (Emptier hand answer) (after_giving_up hand answer) ((2, y) ∷ []) q.seat.me.1 (given_work hand answer) refl (given_free hand answer) m.carried)
+  emptied hand answer y p q w s cell made = let m = moved.moved (EmptySlots ∷ []) w (Emptier hand answer) (awaiter_first y []) p q s made in
+      moved.did p q (act EmptySlots ∷ []) (after_giving_up hand answer) [] cell m.viewed (gave_awaiter (Emptier hand answer) (after_giving_up hand answer) (awaiter_first y []) q.seat.me.1 (given_work hand answer) refl (given_free hand answer) m.carried)
 
   pub releases_last : (hand : Option ℕ) (answer : Answer) (p q r : Party F T A) (b : Bool) → GivesUp hand answer p q b → b ≡ true
-      → ((y : Slot F T A) → StandsWith (Emptier hand answer) ((2, y) ∷ []) q → Did (act EmptySlots ∷ []) (after_giving_up hand answer) q r) → Releases hand answer p r
+      → ((y : Option A) → StandsWith (Emptier hand answer) (awaiter_first y []) q → Did (act EmptySlots ∷ []) (after_giving_up hand answer) q r) → Releases hand answer p r
   releases_last hand answer p q r true (last w y f g) e ends = (
     row GiveUpLastReference w ∷ act EmptySlots ∷ [],
     leaves_none w f,
-    moved.did_then p q r (row GiveUpLastReference w ∷ []) (act EmptySlots ∷ []) (Emptier hand answer) (after_giving_up hand answer) ((2, y) ∷ []) [] g (ends y (moved.stands p q (row GiveUpLastReference w ∷ []) (Emptier hand answer) ((2, y) ∷ []) g)),
+    moved.did_then p q r (row GiveUpLastReference w ∷ []) (act EmptySlots ∷ []) (Emptier hand answer) (after_giving_up hand answer) (awaiter_first y []) [] g (ends y (moved.stands p q (row GiveUpLastReference w ∷ []) (Emptier hand answer) (awaiter_first y []) g)),
   )
   releases_last hand answer p q r false (not_last w f g) e ends = absurd (cc)
 
@@ -84,14 +84,14 @@ module _ {F T A : Type 0} where
   releases_other hand answer p q false (not_last w f g) e = (row GiveUpReference w ∷ [], leaves_others w f, g)
   releases_other hand answer p q true (last w y f g) e = absurd (cc)
 
-  pub answered_ready : (held : List (ℕ × Slot F T A)) (p q : Party F T A) (w : State) → StandsWith Polling held p → q.seat.block ≡ p.seat.block → Makes (answering_ready w) w p.seat.me q.seat.me → DidWith (act AnswerReady ∷ []) Ready held p q
-  answered_ready held p q w s cell made = let m = moved.moved (AnswerReady ∷ []) w Polling held p q s made in moved.did p q (act AnswerReady ∷ []) Ready held cell m.viewed (keeps_places Polling Ready held q.seat.me.1 refl refl m.carried)
+  pub answered_ready : (held : List (ℕ × TaskPlace F T A)) (p q : Party F T A) (w : State) → StandsWith Polling held p → q.seat.block ≡ p.seat.block → Makes (answering_ready w) w p.seat.me q.seat.me → DidWith (act AnswerReady ∷ act DropFuture ∷ []) ReadyFutureDropped held p q
+  answered_ready held p q w s cell made = let m = moved.moved (AnswerReady ∷ DropFuture ∷ []) w Polling held p q s made in moved.did p q (act AnswerReady ∷ act DropFuture ∷ []) ReadyFutureDropped held cell m.viewed (keeps_places Polling ReadyFutureDropped held q.seat.me.1 refl refl m.carried)
 
   -- what is found closed is closed
   at_closed : (acts : List Act) (w : State) (p q : Party F T A) → w.closed ≡ true → Makes acts w p.seat.me q.seat.me → Makes acts (record w { closed = true }) p.seat.me q.seat.me
   at_closed acts w p q e made = subst (λ (v : State). Makes acts v p.seat.me q.seat.me) (sym (closed_already w e)) made
 
-  pub answered_pending : (held : List (ℕ × Slot F T A)) (p q : Party F T A) (w : State) → StandsWith Polling held p → q.seat.block ≡ p.seat.block → Makes (answering_pending w) w p.seat.me q.seat.me → AnswersPending held p q w.closed
+  pub answered_pending : (held : List (ℕ × TaskPlace F T A)) (p q : Party F T A) (w : State) → StandsWith Polling held p → q.seat.block ≡ p.seat.block → Makes (answering_pending w) w p.seat.me q.seat.me → AnswersPending held p q w.closed
   answered_pending held p q w s cell made = by w.closed refl made
     where
       by : (b : Bool) → w.closed ≡ b → Makes (if b then AnswerPending ∷ DropFuture ∷ [] else AnswerPending ∷ []) w p.seat.me q.seat.me → AnswersPending held p q b
@@ -100,35 +100,35 @@ module _ {F T A : Type 0} where
       by false h made = let m = moved.moved (AnswerPending ∷ []) w Polling held p q s made in
           stays_pending (moved.did p q (act AnswerPending ∷ []) Pending held cell m.viewed (keeps_places Polling Pending held q.seat.me.1 refl refl m.carried))
 
-  pub found_closed_meanwhile : (limit : ℕ) (held : List (ℕ × Slot F T A)) (p q : Party F T A) (w : State) → StandsWith Pending held p → q.seat.block ≡ p.seat.block → HasEnded limit to_end_pending w p.seat.me q.seat.me → DidWith (act DropFuture ∷ []) PendingFutureDropped held p q
+  pub found_closed_meanwhile : (limit : ℕ) (held : List (ℕ × TaskPlace F T A)) (p q : Party F T A) (w : State) → StandsWith Pending held p → q.seat.block ≡ p.seat.block → HasEnded limit to_end_pending w p.seat.me q.seat.me → DidWith (act DropFuture ∷ []) PendingFutureDropped held p q
   found_closed_meanwhile limit held p q w s cell e = let v : State = record w { closed = true } in let m = moved.moved (DropFuture ∷ []) v Pending held p q s (at_closed (DropFuture ∷ []) w p q e.at_end e.made) in
       moved.did p q (act DropFuture ∷ []) PendingFutureDropped held cell m.viewed (keeps_places Pending PendingFutureDropped held q.seat.me.1 refl refl m.carried)
 
-  pub ended_closed : (p q : Party F T A) (w : State) → StandsWith PendingFutureDropped (future_first Empty []) p → q.seat.block ≡ p.seat.block → Makes (ending_closed w) w p.seat.me q.seat.me → (w.closed ≡ true) × Did (row EndClosed w ∷ []) (notifies w.awaiter OfRun) p q
-  ended_closed p q w s cell made = let m = moved.moved (EndClosed ∷ []) w PendingFutureDropped (future_first Empty []) p q s made in
-      (alone_fits EndClosed (limit_of p) w made.fits, moved.did p q (row EndClosed w ∷ []) (notifies w.awaiter OfRun) [] cell m.viewed (gave_work PendingFutureDropped (notifies w.awaiter OfRun) (future_first Empty []) q.seat.me.1 refl (due_work w.awaiter) m.carried))
+  pub ended_closed : (p q : Party F T A) (w : State) → StandsWith PendingFutureDropped (work_first Empty []) p → q.seat.block ≡ p.seat.block → Makes (ending_closed w) w p.seat.me q.seat.me → (w.closed ≡ true) × Did (row EndClosed w ∷ []) (notifies w.awaiter OfRun) p q
+  ended_closed p q w s cell made = let m = moved.moved (EndClosed ∷ []) w PendingFutureDropped (work_first Empty []) p q s made in
+      (alone_fits EndClosed (limit_of p) w made.fits, moved.did p q (row EndClosed w ∷ []) (notifies w.awaiter OfRun) [] cell m.viewed (gave_work PendingFutureDropped (notifies w.awaiter OfRun) (work_first Empty []) q.seat.me.1 refl (due_work w.awaiter) m.carried))
 
-  pub dropped_output : (due : Bool) (p q : Party F T A) (w : State) → StandsWith (OutputInHand due) (output_first Empty []) p → q.seat.block ≡ p.seat.block → Makes (dropping_output w) w p.seat.me q.seat.me → Did (act DropOutput ∷ []) (notifies due OfRun) p q
-  dropped_output due p q w s cell made = let m = moved.moved (DropOutput ∷ []) w (OutputInHand due) (output_first Empty []) p q s made in
-      moved.did p q (act DropOutput ∷ []) (notifies due OfRun) [] cell m.viewed (gave_work (OutputInHand due) (notifies due OfRun) (output_first Empty []) q.seat.me.1 refl (due_work due) m.carried)
+  pub dropped_output : (due : Bool) (p q : Party F T A) (w : State) → StandsWith (OutputInHand due) (work_first Empty []) p → q.seat.block ≡ p.seat.block → Makes (dropping_output w) w p.seat.me q.seat.me → Did (act DropOutput ∷ []) (notifies due OfRun) p q
+  dropped_output due p q w s cell made = let m = moved.moved (DropOutput ∷ []) w (OutputInHand due) (work_first Empty []) p q s made in
+      moved.did p q (act DropOutput ∷ []) (notifies due OfRun) [] cell m.viewed (gave_work (OutputInHand due) (notifies due OfRun) (work_first Empty []) q.seat.me.1 refl (due_work due) m.carried)
 
-  pub completed : (z : Slot F T A) (p q : Party F T A) (w : State) → StandsWith Ready (output_first z []) p → q.seat.block ≡ p.seat.block → Makes (completing w) w p.seat.me q.seat.me → Completes p q w
+  pub completed : (z : Slot F T) (p q : Party F T A) (w : State) → StandsWith ReadyFutureDropped (work_first z []) p → q.seat.block ≡ p.seat.block → Makes (completing w) w p.seat.me q.seat.me → Completes p q w
   completed z p q w s cell made = by w.task w.closed refl refl made
     where
-      by : (b c : Bool) → w.task ≡ b → w.closed ≡ c → Makes (if b then DropFuture ∷ StoreOutput ∷ Complete ∷ [] else DropFuture ∷ StoreOutput ∷ CompleteDetached ∷ []) w p.seat.me q.seat.me → Completes p q w
-      by true true h k made = let m = moved.moved (DropFuture ∷ StoreOutput ∷ Complete ∷ []) w Ready (output_first z []) p q s made in let e : (if w.closed then OutputInHand w.awaiter else notifies w.awaiter OfRun) ≡ OutputInHand w.awaiter = ap (λ b. if b then OutputInHand w.awaiter else notifies w.awaiter OfRun) k in
-          finds_closed z h k (subst (λ (at : Position). DidWith (act DropFuture ∷ act StoreOutput ∷ row Complete w ∷ []) at (output_first z []) p q) e
-          (moved.did p q (act DropFuture ∷ act StoreOutput ∷ row Complete w ∷ []) (if w.closed then OutputInHand w.awaiter else notifies w.awaiter OfRun) (output_first z []) cell m.viewed
-          (keeps_places Ready (OutputInHand w.awaiter) (output_first z []) q.seat.me.1 refl refl (subst (λ (at : Position). Carried Ready at (output_first z []) q.seat.me.1) e m.carried))))
-      by true false h k made = let m = moved.moved (DropFuture ∷ StoreOutput ∷ Complete ∷ []) w Ready (output_first z []) p q s made in let e : (if w.closed then OutputInHand w.awaiter else notifies w.awaiter OfRun) ≡ notifies w.awaiter OfRun = ap (λ b. if b then OutputInHand w.awaiter else notifies w.awaiter OfRun) k in
-          keeps h k (subst (λ (at : Position). Did (act DropFuture ∷ act StoreOutput ∷ row Complete w ∷ []) at p q) e
-          (moved.did p q (act DropFuture ∷ act StoreOutput ∷ row Complete w ∷ []) (if w.closed then OutputInHand w.awaiter else notifies w.awaiter OfRun) [] cell m.viewed
-          (gave_work Ready (notifies w.awaiter OfRun) (output_first z []) q.seat.me.1 refl (due_work w.awaiter) (subst (λ (at : Position). Carried Ready at (output_first z []) q.seat.me.1) e m.carried))))
-      by false c h k made = let m = moved.moved (DropFuture ∷ StoreOutput ∷ CompleteDetached ∷ []) w Ready (output_first z []) p q s made in
-          finds_detached z h (moved.did p q (act DropFuture ∷ act StoreOutput ∷ row CompleteDetached w ∷ []) (OutputInHand w.awaiter) (output_first z []) cell m.viewed (keeps_places Ready (OutputInHand w.awaiter) (output_first z []) q.seat.me.1 refl refl m.carried))
+      by : (b c : Bool) → w.task ≡ b → w.closed ≡ c → Makes (if b then StoreOutput ∷ Complete ∷ [] else StoreOutput ∷ CompleteDetached ∷ []) w p.seat.me q.seat.me → Completes p q w
+      by true true h k made = let m = moved.moved (StoreOutput ∷ Complete ∷ []) w ReadyFutureDropped (work_first z []) p q s made in let e : (if w.closed then OutputInHand w.awaiter else notifies w.awaiter OfRun) ≡ OutputInHand w.awaiter = ap (λ b. if b then OutputInHand w.awaiter else notifies w.awaiter OfRun) k in
+          finds_closed z h k (subst (λ (at : Position). DidWith (act StoreOutput ∷ row Complete w ∷ []) at (work_first z []) p q) e
+          (moved.did p q (act StoreOutput ∷ row Complete w ∷ []) (if w.closed then OutputInHand w.awaiter else notifies w.awaiter OfRun) (work_first z []) cell m.viewed
+          (keeps_places ReadyFutureDropped (OutputInHand w.awaiter) (work_first z []) q.seat.me.1 refl refl (subst (λ (at : Position). Carried ReadyFutureDropped at (work_first z []) q.seat.me.1) e m.carried))))
+      by true false h k made = let m = moved.moved (StoreOutput ∷ Complete ∷ []) w ReadyFutureDropped (work_first z []) p q s made in let e : (if w.closed then OutputInHand w.awaiter else notifies w.awaiter OfRun) ≡ notifies w.awaiter OfRun = ap (λ b. if b then OutputInHand w.awaiter else notifies w.awaiter OfRun) k in
+          keeps h k (subst (λ (at : Position). Did (act StoreOutput ∷ row Complete w ∷ []) at p q) e
+          (moved.did p q (act StoreOutput ∷ row Complete w ∷ []) (if w.closed then OutputInHand w.awaiter else notifies w.awaiter OfRun) [] cell m.viewed
+          (gave_work ReadyFutureDropped (notifies w.awaiter OfRun) (work_first z []) q.seat.me.1 refl (due_work w.awaiter) (subst (λ (at : Position). Carried ReadyFutureDropped at (work_first z []) q.seat.me.1) e m.carried))))
+      by false c h k made = let m = moved.moved (StoreOutput ∷ CompleteDetached ∷ []) w ReadyFutureDropped (work_first z []) p q s made in
+          finds_detached z h (moved.did p q (act StoreOutput ∷ row CompleteDetached w ∷ []) (OutputInHand w.awaiter) (work_first z []) cell m.viewed (keeps_places ReadyFutureDropped (OutputInHand w.awaiter) (work_first z []) q.seat.me.1 refl refl m.carried))
 
-  pub ended_pending : (limit : ℕ) (y : Slot F T A) (p q : Party F T A) (r : PendingEnd) → StandsWith Pending (future_first y []) p → q.seat.block ≡ p.seat.block → HasChanged limit to_end_pending r p.seat.me q.seat.me → EndsPending (future_first y []) p q (Some r)
-  ended_pending limit y p q r s cell c = subst (λ (x : PendingEnd). EndsPending (future_first y []) p q (Some x)) (sym c.is) (by w.scheduled (nat_lt 1 w.references || w.task) refl refl c.made)
+  pub ended_pending : (limit : ℕ) (y : Slot F T) (p q : Party F T A) (r : PendingEnd) → StandsWith Pending (work_first y []) p → q.seat.block ≡ p.seat.block → HasChanged limit to_end_pending r p.seat.me q.seat.me → EndsPending (work_first y []) p q (Some r)
+  ended_pending limit y p q r s cell c = subst (λ (x : PendingEnd). EndsPending (work_first y []) p q (Some x)) (sym c.is) (by w.scheduled (nat_lt 1 w.references || w.task) refl refl c.made)
     where
       w : State
       w = c.word
@@ -137,33 +137,30 @@ module _ {F T A : Type 0} where
       unclosed = not_true w.closed c.applied
 
       by : (b d : Bool) → w.scheduled ≡ b → (nat_lt 1 w.references || w.task) ≡ d → Makes (ending_pending (if b then Rescheduled else (if d then Idle else Orphaned))) w p.seat.me q.seat.me
-          → EndsPending (future_first y []) p q (Some (if b then Rescheduled else (if d then Idle else Orphaned)))
-      by true d h k made = let m = moved.moved (Reschedule ∷ []) w Pending (future_first y []) p q s made in
-          is_rescheduled w unclosed h (moved.did p q (row Reschedule w ∷ []) (Deliverer true (ThenEnds (Ran true))) [] cell m.viewed (gave_work Pending (Deliverer true (ThenEnds (Ran true))) (future_first y []) q.seat.me.1 refl refl m.carried))
-      by false true h k made = let m = moved.moved (EndIdle ∷ EndCall ∷ []) w Pending (future_first y []) p q s made in
-          is_idle w unclosed h k (moved.did p q (row EndIdle w ∷ act EndCall ∷ []) (At Ended) [] cell m.viewed (gave_work Pending (At Ended) (future_first y []) q.seat.me.1 refl refl m.carried))
-      by false false h k made = let m = moved.moved (EndOrphaned ∷ []) w Pending (future_first y []) p q s made in
-          is_orphaned w unclosed h k (moved.did p q (row EndOrphaned w ∷ []) (Deliverer false (ThenEnds (Ran false))) [] cell m.viewed (gave_work Pending (Deliverer false (ThenEnds (Ran false))) (future_first y []) q.seat.me.1 refl refl m.carried))
+          → EndsPending (work_first y []) p q (Some (if b then Rescheduled else (if d then Idle else Orphaned)))
+      by true d h k made = let m = moved.moved (Reschedule ∷ []) w Pending (work_first y []) p q s made in
+          is_rescheduled w unclosed h (moved.did p q (row Reschedule w ∷ []) (Deliverer true (ThenEnds (Ran true))) [] cell m.viewed (gave_work Pending (Deliverer true (ThenEnds (Ran true))) (work_first y []) q.seat.me.1 refl refl m.carried))
+      by false true h k made = let m = moved.moved (EndIdle ∷ EndCall ∷ []) w Pending (work_first y []) p q s made in
+          is_idle w unclosed h k (moved.did p q (row EndIdle w ∷ act EndCall ∷ []) (At Ended) [] cell m.viewed (gave_work Pending (At Ended) (work_first y []) q.seat.me.1 refl refl m.carried))
+      by false false h k made = let m = moved.moved (EndOrphaned ∷ []) w Pending (work_first y []) p q s made in
+          is_orphaned w unclosed h k (moved.did p q (row EndOrphaned w ∷ []) (Deliverer false (ThenEnds (Ran false))) [] cell m.viewed (gave_work Pending (Deliverer false (ThenEnds (Ran false))) (work_first y []) q.seat.me.1 refl refl m.carried))
 
   -- nothing was done yet
-  pub at_rest : (at : Position) (held : List (ℕ × Slot F T A)) (p q : Party F T A) → StandsWith at held p → q.seat.block ≡ p.seat.block → q.seat.me ≡ p.seat.me → DidWith [] at held p q
+  pub at_rest : (at : Position) (held : List (ℕ × TaskPlace F T A)) (p q : Party F T A) → StandsWith at held p → q.seat.block ≡ p.seat.block → q.seat.me ≡ p.seat.me → DidWith [] at held p q
   at_rest at held p q s cell same = record { cell = cell; is = same ∙ s }
 
   -- the place of the output comes before that of the future
-  pub turns : (at : Position) (p q : Party F T A) → StandsWith at (future_first Empty []) p → q.seat.block ≡ p.seat.block → q.seat.me ≡ (p.seat.me.0, turned p.seat.me.1) → DidWith [] at (output_first Empty []) p q
-  turns at p q s cell turn = record { cell = cell; is = turn ∙ ap (λ m. (m.0, turned m.1)) s }
-
-  pub completes_then : (at : Position) (held : List (ℕ × Slot F T A)) (p q r : Party F T A) (w : State) → DidWith [] at held p q → Completes q r w → Completes p r w
-  completes_then at held p q r w g (keeps h k x) = keeps h k (moved.did_then p q r [] (act DropFuture ∷ act StoreOutput ∷ row Complete w ∷ []) at (notifies w.awaiter OfRun) held [] g x)
-  completes_then at held p q r w g (finds_closed z h k x) = finds_closed z h k (moved.did_then p q r [] (act DropFuture ∷ act StoreOutput ∷ row Complete w ∷ []) at (OutputInHand w.awaiter) held (output_first z []) g x)
-  completes_then at held p q r w g (finds_detached z h x) = finds_detached z h (moved.did_then p q r [] (act DropFuture ∷ act StoreOutput ∷ row CompleteDetached w ∷ []) at (OutputInHand w.awaiter) held (output_first z []) g x)
+  pub completes_then : (at : Position) (held : List (ℕ × TaskPlace F T A)) (p q r : Party F T A) (w : State) → DidWith [] at held p q → Completes q r w → Completes p r w
+  completes_then at held p q r w g (keeps h k x) = keeps h k (moved.did_then p q r [] (act StoreOutput ∷ row Complete w ∷ []) at (notifies w.awaiter OfRun) held [] g x)
+  completes_then at held p q r w g (finds_closed z h k x) = finds_closed z h k (moved.did_then p q r [] (act StoreOutput ∷ row Complete w ∷ []) at (OutputInHand w.awaiter) held (work_first z []) g x)
+  completes_then at held p q r w g (finds_detached z h x) = finds_detached z h (moved.did_then p q r [] (act StoreOutput ∷ row CompleteDetached w ∷ []) at (OutputInHand w.awaiter) held (work_first z []) g x)
 
 module _ (F T A : Type 0) (limit : ℕ) where
   -- the rule allows a run to end: with its output, and without one
-  pub may_complete : (p : Party F T A) (z : Slot F T A) → StandsWith Ready (output_first z []) p → IsOutput z → MayTry limit 3 p.seat.id p.seat.me to_complete × MayBring limit p.seat.id p.seat.me to_complete
-  may_complete p z s is = may_bring_at limit p Ready (output_first z []) s to_complete (λ w. refl) (completes F T A limit (deeds p) [] z (output_first z []) refl is)
-      (λ m f any. inl (refl, keeps_either m.word.task (DropFuture ∷ StoreOutput ∷ Complete ∷ []) (DropFuture ∷ StoreOutput ∷ CompleteDetached ∷ []) m.word refl refl)) (never_ends F T A limit to_complete Ready (deeds p) [] (output_first z []) (λ w. refl))
+  pub may_complete : (p : Party F T A) (z : Slot F T) → StandsWith ReadyFutureDropped (work_first z []) p → IsOutput z → MayTry limit 2 p.seat.id p.seat.me to_complete × MayBring limit p.seat.id p.seat.me to_complete
+  may_complete p z s is = may_bring_at limit p ReadyFutureDropped (work_first z []) s to_complete (λ w. refl) (completes F T A limit (deeds p) [] z (work_first z []) refl is)
+      (λ m f any. inl (refl, keeps_either m.word.task (StoreOutput ∷ Complete ∷ []) (StoreOutput ∷ CompleteDetached ∷ []) m.word refl refl)) (never_ends F T A limit to_complete ReadyFutureDropped (deeds p) [] (work_first z []) (λ w. refl))
 
-  pub may_end : (p : Party F T A) (y : Slot F T A) → StandsWith Pending (future_first y []) p → IsFuture y → MayTry limit 3 p.seat.id p.seat.me to_end_pending × MayGive limit p.seat.id p.seat.me to_end_pending
-  may_end p y s is = may_give_at limit p Pending (future_first y []) s to_end_pending (λ w. refl) (ends_pending F T A limit (deeds p) [] y (future_first y []) refl is) (ends_open limit (deeds p) [] F T A)
-      (finds_closed_task F T A limit (deeds p) [] (future_first y []))
+  pub may_end : (p : Party F T A) (y : Slot F T) → StandsWith Pending (work_first y []) p → IsFuture y → MayTry limit 2 p.seat.id p.seat.me to_end_pending × MayGive limit p.seat.id p.seat.me to_end_pending
+  may_end p y s is = may_give_at limit p Pending (work_first y []) s to_end_pending (λ w. refl) (ends_pending F T A limit (deeds p) [] y (work_first y []) refl is) (ends_open limit (deeds p) [] F T A)
+      (finds_closed_task F T A limit (deeds p) [] (work_first y []))

@@ -1,16 +1,16 @@
 -- What the calls of a run and of a Runnable's drop come to, step after step.
 use Rattle.task_cell.proofs.Vocabulary.{◌≡◌, ℕ, Bool, true, false, List, [], ◌∷◌, ◌++◌, Option, Some, None, refl, sym, ap, ◌∙◌, subst, State, Rest, Ended, NotifyingCall, OfRun, OfDrop, OfCancel}
-use Rattle.task_cell.proofs.Vocabulary.{DroppedRunnable, Position, At, CallEnding, Notifier, GivingUp, AwaiterInHand, FutureInHand, EndCall, WakeAwaiter, DropFuture, Unschedule, Answer, Ran, Nothing}
-use Rattle.task_cell.proofs.Vocabulary.{after_taking, after_waking, notifies, Slot, Empty, Deed, Party, IsFuture, future_first, position, places_of, StandsWith, Stands, DidWith, Did, Notifies, misses}
+use Rattle.task_cell.proofs.Vocabulary.{DroppedRunnable, Position, At, CallEnding, Notifier, GivingUp, AwaiterInHand, FutureGone, EndCall, WakeAwaiter, DropFuture, Unschedule, Answer, Ran, Nothing}
+use Rattle.task_cell.proofs.Vocabulary.{after_taking, after_waking, notifies, Slot, Empty, Deed, Party, IsFuture, position, places_of, StandsWith, Stands, DidWith, Did, Notifies, misses}
 use Rattle.task_cell.proofs.Vocabulary.{finds_none, takes_awaiter, row, act, closing_way, way_of, rest_of, none_there, taken, nobody, woken, rests, DiscardStart, closed_run, Releases, TakesDue}
-use Rattle.task_cell.proofs.Vocabulary.{takes_none, takes_one, HasTaken, has_none, has_one, Wakes, Rests, Closes, Discards, is_some, after_giving_up, NotifyPath}
+use Rattle.task_cell.proofs.Vocabulary.{takes_none, takes_one, HasTaken, has_none, has_one, Wakes, Rests, Closes, Discards, is_some, after_giving_up, NotifyPath, TaskPlace, work_first}
 use Rattle.task_laws.specs.declared.positions.WithoutPoll.{WithoutPoll}
 use Rattle.task_cell.specs.RunPaths.{missed, discards}
 use Rattle.task_cell.proofs.Moved as moved
 
 module _ {F T A : Type 0} where
   pub at_way : (way : NotifyingCall) (hand : Option ℕ) (path : List Deed) (p q : Party F T A) → Stands (Notifier way) p → DidWith path (after_taking hand (way_of (position p))) (places_of p) p q → Did path (after_taking hand way) p q
-  at_way way hand path p q s g = subst (λ (z : NotifyingCall × List (ℕ × Slot F T A)). DidWith path (after_taking hand z.0) z.1 p q)
+  at_way way hand path p q s g = subst (λ (z : NotifyingCall × List (ℕ × TaskPlace F T A)). DidWith path (after_taking hand z.0) z.1 p q)
       (λ i. (ap way_of (moved.position_is p (Notifier way) [] s) i, moved.held_is p (Notifier way) [] s i)) g
 
   pub took_due : (way : NotifyingCall) (p q : Party F T A) (r : Option A) → Stands (Notifier way) p → Notifies p q r
@@ -35,7 +35,7 @@ module _ {F T A : Type 0} where
   wakes_has Woken way a r p q (has_one i b s) e fact g = (
     act WakeAwaiter ∷ [],
     woken fact,
-    subst (λ (z : NotifyingCall × List (ℕ × Slot F T A)). DidWith (act WakeAwaiter ∷ []) (after_waking z.0) z.1 p q)
+    subst (λ (z : NotifyingCall × List (ℕ × TaskPlace F T A)). DidWith (act WakeAwaiter ∷ []) (after_waking z.0) z.1 p q)
         (λ j. (ap way_of (moved.position_is p (AwaiterInHand i way) [] s) j, moved.held_is p (AwaiterInHand i way) [] s j)) g,
   )
 
@@ -90,31 +90,31 @@ module _ {F T A : Type 0} where
         (moved.did_then q s u k.0 (x.0 ++ act EndCall ∷ []) (GivingUp None Nothing) (At Ended) [] [] k.2 (moved.did_then s t u x.0 (act EndCall ∷ []) (CallEnding Nothing Ended) (At Ended) [] [] x.2 z))),
   )
 
-  -- the future was dropped, and SCHEDULED cleared
-  pub unscheduled : (closer : WithoutPoll) (w : State) (held : List (ℕ × Slot F T A)) (p q r : Party F T A) → DidWith [] (FutureInHand closer) held p q
-      → Did (act DropFuture ∷ row Unschedule w ∷ []) (notifies w.awaiter (closing_way (position q))) q r → Did (act DropFuture ∷ row Unschedule w ∷ []) (notifies w.awaiter (closing_way (FutureInHand closer))) p r
-  unscheduled closer w held p q r g h = let way = closing_way (FutureInHand closer) in moved.did_then p q r [] (act DropFuture ∷ row Unschedule w ∷ []) (FutureInHand closer) (notifies w.awaiter way) held [] g
-      (subst (λ (z : NotifyingCall). Did (act DropFuture ∷ row Unschedule w ∷ []) (notifies w.awaiter z) q r)
-      (ap closing_way (moved.position_is q (FutureInHand closer) held (moved.stands p q [] (FutureInHand closer) held g))) h)
+  -- the future was taken out to be dropped, and SCHEDULED cleared
+  pub unscheduled : (closer : WithoutPoll) (w : State) (held : List (ℕ × TaskPlace F T A)) (p q r : Party F T A) → DidWith [] (FutureGone closer) held p q
+      → Did (row Unschedule w ∷ []) (notifies w.awaiter (closing_way (position q))) q r → Did (row Unschedule w ∷ []) (notifies w.awaiter (closing_way (FutureGone closer))) p r
+  unscheduled closer w held p q r g h = let way = closing_way (FutureGone closer) in moved.did_then p q r [] (row Unschedule w ∷ []) (FutureGone closer) (notifies w.awaiter way) held [] g
+      (subst (λ (z : NotifyingCall). Did (row Unschedule w ∷ []) (notifies w.awaiter z) q r)
+      (ap closing_way (moved.position_is q (FutureGone closer) held (moved.stands p q [] (FutureGone closer) held g))) h)
 
-  -- a Runnable's drop from p, step after step: to a and b by the drop of the future, to o with SCHEDULED cleared
-  module _ (p a b : Party F T A) (start : (d : Deed) × (y : Slot F T A) × DiscardStart d × DidWith (d ∷ []) (FutureInHand DroppedRunnable) (future_first y []) p a × IsFuture y)
-      (clear : (at : Position) (y : Slot F T A) (held : List (ℕ × Slot F T A)) → StandsWith at ((0, y) ∷ held) a → DidWith [] at ((0, Empty) ∷ held) a b) where
-    pub drop_clears : DidWith [] (FutureInHand DroppedRunnable) (future_first Empty []) a b
-    drop_clears = clear (FutureInHand DroppedRunnable) start.1 ((1, Empty) ∷ []) (moved.stands p a (start.0 ∷ []) (FutureInHand DroppedRunnable) (future_first start.1 []) start.3)
+  -- a Runnable's drop from p, step after step: to a with the future taken over, to b with it taken out, to o with SCHEDULED cleared
+  module _ (p a b : Party F T A) (start : (d : Deed) × (y : Slot F T) × DiscardStart d × DidWith (d ∷ act DropFuture ∷ []) (FutureGone DroppedRunnable) (work_first y []) p a × IsFuture y)
+      (take : (at : Position) (y : Slot F T) (held : List (ℕ × TaskPlace F T A)) → StandsWith at (work_first y held) a → DidWith [] at (work_first Empty held) a b) where
+    pub drop_clears : DidWith [] (FutureGone DroppedRunnable) (work_first Empty []) a b
+    drop_clears = take (FutureGone DroppedRunnable) start.1 [] (moved.stands p a (start.0 ∷ act DropFuture ∷ []) (FutureGone DroppedRunnable) (work_first start.1 []) start.3)
 
-    module _ (o : Party F T A) (w : State) (unschedule : Did (act DropFuture ∷ row Unschedule w ∷ []) (notifies w.awaiter (closing_way (position b))) b o) (due : Bool) (is : due ≡ w.awaiter) where
+    module _ (o : Party F T A) (w : State) (unschedule : Did (row Unschedule w ∷ []) (notifies w.awaiter (closing_way (position b))) b o) (due : Bool) (is : due ≡ w.awaiter) where
       pub drop_closes : Did (start.0 ∷ act DropFuture ∷ row Unschedule w ∷ []) (notifies w.awaiter OfDrop) p o
-      drop_closes = moved.did_then p a o (start.0 ∷ []) (act DropFuture ∷ row Unschedule w ∷ []) (FutureInHand DroppedRunnable) (notifies w.awaiter OfDrop) (future_first start.1 []) [] start.3
-          (unscheduled DroppedRunnable w (future_first Empty []) a b o drop_clears unschedule)
+      drop_closes = moved.did_then p a o (start.0 ∷ act DropFuture ∷ []) (row Unschedule w ∷ []) (FutureGone DroppedRunnable) (notifies w.awaiter OfDrop) (work_first start.1 []) [] start.3
+          (unscheduled DroppedRunnable w (work_first Empty []) a b o drop_clears unschedule)
 
       pub drop_notifies : Stands (notifies due OfDrop) o
       drop_notifies = subst (λ h. Stands (notifies h OfDrop) o) (sym is) (moved.stands p o (start.0 ∷ act DropFuture ∷ row Unschedule w ∷ []) (notifies w.awaiter OfDrop) [] drop_closes)
 
       -- .. to q by the awaiter that was taken
-      module _ (q : Party F T A) (r : Option A) (take : (way : NotifyingCall) → Stands (notifies due way) o → TakesDue way due o q r) where
+      module _ (q : Party F T A) (r : Option A) (notice : (way : NotifyingCall) → Stands (notifies due way) o → TakesDue way due o q r) where
         pub drop_takes : TakesDue OfDrop w.awaiter o q r
-        drop_takes = subst (λ h. TakesDue OfDrop h o q r) is (take OfDrop drop_notifies)
+        drop_takes = subst (λ h. TakesDue OfDrop h o q r) is (notice OfDrop drop_notifies)
 
         pub drop_takes_cell : q.seat.block ≡ p.seat.block
         drop_takes_cell = due_cell OfDrop w.awaiter o q r drop_takes ∙ drop_closes.cell
@@ -141,5 +141,5 @@ module _ {F T A : Type 0} where
             pub drop_ends : (u : Party F T A) → Did (act EndCall ∷ []) (rest_of (position t)) t u → Discards Woken p u
             drop_ends u e = discard_rest Woken start.0 w p o q s t u r start.2 drop_closes drop_takes drop_wakes drop_releases (ended_call Nothing Ended t u drop_leaves e)
 
-  pub close_rest : (Woken : Type 0) (w : State) (p q r : Party F T A) → Did (act DropFuture ∷ row Unschedule w ∷ []) (notifies w.awaiter OfRun) p q → Rests Woken w.awaiter q r → Closes Woken p r
-  close_rest Woken w p q r g x = (act DropFuture ∷ row Unschedule w ∷ x.0, closed_run w x.0 x.1, moved.did_then p q r (act DropFuture ∷ row Unschedule w ∷ []) x.0 (notifies w.awaiter OfRun) (At Ended) [] [] g x.2)
+  pub close_rest : (Woken : Type 0) (w : State) (p q r : Party F T A) → Did (row Unschedule w ∷ []) (notifies w.awaiter OfRun) p q → Rests Woken w.awaiter q r → Closes Woken p r
+  close_rest Woken w p q r g x = (row Unschedule w ∷ x.0, closed_run w x.0 x.1, moved.did_then p q r (row Unschedule w ∷ []) x.0 (notifies w.awaiter OfRun) (At Ended) [] [] g x.2)

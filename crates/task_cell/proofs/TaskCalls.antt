@@ -1,9 +1,9 @@
 -- A cancel and a detach, put together from their steps.
 use Rattle.task_cell.proofs.Vocabulary.{◌≡◌, ℕ, Bool, true, false, List, [], ◌∷◌, ◌++◌, Option, Some, None, refl, sym, subst, State, Nothing, Deliverer, Emptier, OutputCloser}
 use Rattle.task_cell.proofs.Vocabulary.{OfCancel, ThenEnds, CancelOver, CancelBusy, CancelIdle, GiveUpOutput, DropOutput, DetachOrphan, DetachLast, Detach, EmptySlots, EndCall, HandOver, notifies}
-use Rattle.task_cell.proofs.Vocabulary.{after_cancelling, after_handing_over, Slot, Deed, Party, Busy, Unclaimed, output_first, Fits, position, StandsWith, Stands, DidWith}
+use Rattle.task_cell.proofs.Vocabulary.{after_cancelling, after_handing_over, Deed, Party, Busy, Unclaimed, Fits, position, StandsWith, Stands, DidWith}
 use Rattle.task_cell.proofs.Vocabulary.{Did, row, act, as_task, as_ended, handed_over, Notice, CancelPath, is_busy, DetachPath, drops_output_last, is_shared, is_last, Cancels, Detaches}
-use Rattle.task_cell.proofs.Vocabulary.{GivesTaskUp}
+use Rattle.task_cell.proofs.Vocabulary.{GivesTaskUp, work_first, awaiter_first}
 use Rattle.task_laws.specs.declared.positions.OnceDelivered.{OnceDelivered}
 use Rattle.task_steps.specs.declared.task.Cancelled.{Cancelled}
 use Rattle.task_steps.specs.declared.task.Cancelled.TheVariants.{Idle}
@@ -71,14 +71,14 @@ module _ {F T A : Type 0} where
   abbrev pub Empties : Party F T A → Party F T A → Type 0
   Empties p q = Did (act EmptySlots ∷ act EndCall ∷ []) as_ended p q
 
-  pub empties : (p q r : Party F T A) (path : List Deed) (y : Slot F T A) → DidWith path (Emptier None Nothing) ((2, y) ∷ []) p q → Empties q r → Did (path ++ act EmptySlots ∷ act EndCall ∷ []) as_ended p r
-  empties p q r path y g e = did_then p q r path (act EmptySlots ∷ act EndCall ∷ []) (Emptier None Nothing) as_ended ((2, y) ∷ []) [] g e
+  pub empties : (p q r : Party F T A) (path : List Deed) (y : Option A) → DidWith path (Emptier None Nothing) (awaiter_first y []) p q → Empties q r → Did (path ++ act EmptySlots ∷ act EndCall ∷ []) as_ended p r
+  empties p q r path y g e = did_then p q r path (act EmptySlots ∷ act EndCall ∷ []) (Emptier None Nothing) as_ended (awaiter_first y []) [] g e
 
   -- the rest of a detach that has dropped the output: the Task was the last handle, or was not
   abbrev pub LeavesUnclaimed : Party F T A → Party F T A → Type 0
   LeavesUnclaimed p q = (path : List Deed) × UnclaimedPath path × Did path as_ended p q
 
-  pub unclaimed_empties : (p q : Party F T A) (b : Bool) → b ≡ true → GivesTaskUp p q b → (y : Slot F T A) × StandsWith (Emptier None Nothing) ((2, y) ∷ []) q
+  pub unclaimed_empties : (p q : Party F T A) (b : Bool) → b ≡ true → GivesTaskUp p q b → (y : Option A) × StandsWith (Emptier None Nothing) (awaiter_first y []) q
   unclaimed_empties p q false is x = absurd (cc)
   unclaimed_empties p q true is x = (x.1, stands p q _ _ _ x.3)
 
@@ -96,7 +96,7 @@ module _ {F T A : Type 0} where
   unclaimed_shared p q false is x = (act DropOutput ∷ row Detach x.0 ∷ act EndCall ∷ [], leaves_others x.0 x.1, x.2)
 
   pub detaches_unclaimed : (Scheduled : Type 0) (p q r : Party F T A) → Detaches p q Unclaimed → LeavesUnclaimed q r → Detaching Scheduled p r
-  detaches_unclaimed Scheduled p q r x y = (row GiveUpOutput x.0 ∷ y.0, unclaimed_path Scheduled x.0 y.0 x.2 y.1, did_then p q r (row GiveUpOutput x.0 ∷ []) y.0 OutputCloser as_ended (output_first x.1 []) [] x.4 y.2)
+  detaches_unclaimed Scheduled p q r x y = (row GiveUpOutput x.0 ∷ y.0, unclaimed_path Scheduled x.0 y.0 x.2 y.1, did_then p q r (row GiveUpOutput x.0 ∷ []) y.0 OutputCloser as_ended (work_first x.1 []) [] x.4 y.2)
 
   pub detaches_shared : (Scheduled : Type 0) (p q : Party F T A) → Detaches p q Shared → Detaching Scheduled p q
   detaches_shared Scheduled p q x = (row Detach x.0 ∷ act EndCall ∷ [], is_shared x.0 x.1, x.2)

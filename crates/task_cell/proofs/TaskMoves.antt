@@ -1,10 +1,10 @@
 -- What the steps of a cancel and of a detach come to for the party that made them.
 use Rattle.task_cell.proofs.Vocabulary.{◌≡◌, ℕ, Bool, true, false, not, ◌&&◌, List, [], ◌∷◌, ◌++◌, Option, Some, None, refl, sym, subst, arith, nat_lt, nat_eq, if◌then◌else◌, State, is_open}
 use Rattle.task_cell.proofs.Vocabulary.{Answer, Nothing, Position, At, Deliverer, Emptier, OutputCloser, Detacher, CallEnding, Rest, Task, Ended, ThenEnds, OfCancel, CancelOver, CancelBusy}
-use Rattle.task_cell.proofs.Vocabulary.{CancelIdle, GiveUpOutput, DropOutput, DetachOrphan, DetachLast, Detach, EndCall, notifies, after_cancelling, owns_awaiter, Slot, Deed, Party, Busy}
-use Rattle.task_cell.proofs.Vocabulary.{Unclaimed, has_work, output_first, Carries, Makes, position, Stands, Did, deeds, row, act, rest_of, as_task, NotifyPath, none_there, taken, WakePath, nobody}
+use Rattle.task_cell.proofs.Vocabulary.{CancelIdle, GiveUpOutput, DropOutput, DetachOrphan, DetachLast, Detach, EndCall, notifies, after_cancelling, owns_awaiter, Deed, Party, Busy}
+use Rattle.task_cell.proofs.Vocabulary.{Unclaimed, has_work, Carries, Makes, position, Stands, Did, deeds, row, act, rest_of, as_task, NotifyPath, none_there, taken, WakePath, nobody}
 use Rattle.task_cell.proofs.Vocabulary.{woken, TakesDue, Wakes, Notice, not_due, found_none, woke, Cancels, Detaches, GivesTaskUp, both, over, busy_fits, none_left, output_left}
-use Rattle.task_cell.proofs.Vocabulary.{closed_claimed, idle_cancel, finds_over, cancels, detaches, MayTry, HasChanged, HasEnded, never_ends, is_some, after_taking}
+use Rattle.task_cell.proofs.Vocabulary.{closed_claimed, idle_cancel, finds_over, cancels, detaches, MayTry, HasChanged, HasEnded, never_ends, is_some, after_taking, TaskPlace, work_first, awaiter_first}
 use Rattle.std.proofs.lemmas.Bool.Decides.{nat_tests}
 use Rattle.task_steps.specs.declared.task.Cancelled.TheVariants.{Idle}
 use Rattle.task_steps.specs.declared.task.Detached.TheVariants.{Shared, Last, Orphaned}
@@ -28,7 +28,7 @@ noticed Woken due found n k (none_there w v f) nobody = found_none w v f
 noticed Woken due found n k (taken w v f) (woken fact) = woke w v f fact
 
 module _ {F T A : Type 0} where
-  bare : (a b : Bool) (q : Position) (l : List (ℕ × Slot F T A)) → a ≡ false → b ≡ false → Carries {F = F} {T = T} {A = A} false a false b q [] l → l ≡ []
+  bare : (a b : Bool) (q : Position) (l : List (ℕ × TaskPlace F T A)) → a ≡ false → b ≡ false → Carries {F = F} {T = T} {A = A} false a false b q [] l → l ≡ []
   bare a b q l e f c = subst (λ (z : Bool × Bool). Carries {F = F} {T = T} {A = A} false z.0 false z.1 q [] l) (λ i. (e i, f i)) c
 
   -- a cancel of a task that is over
@@ -62,11 +62,11 @@ module _ {F T A : Type 0} where
       made true b c fit y z m = let x = moved (Detach ∷ EndCall ∷ []) w (At (Task n)) [] p q s m in
           (w, fit, did p q (row Detach w ∷ act EndCall ∷ []) (At Ended) [] cell x.viewed x.carried)
       made false true c k fit z m = let x = moved (DetachLast ∷ []) w (At (Task n)) [] p q s m in let y = x.carried in
-          (w, y.0, fit, did p q (row DetachLast w ∷ []) (Emptier None Nothing) ((2, y.0) ∷ []) cell x.viewed y.2)
+          (w, y.0, fit, did p q (row DetachLast w ∷ []) (Emptier None Nothing) (awaiter_first y.0 []) cell x.viewed y.2)
       made false false true k l fit m = let x = moved (DetachOrphan ∷ []) w (At (Task n)) [] p q s m in
           (w, fit, did p q (row DetachOrphan w ∷ []) (Deliverer false (ThenEnds Nothing)) [] cell x.viewed x.carried)
       made false false false k l z m = let x = moved (GiveUpOutput ∷ []) w (At (Task n)) [] p q s m in let y = x.carried in
-          (w, y.0, output_left w.references w.completed w.closed k l z, y.1, did p q (row GiveUpOutput w ∷ []) OutputCloser (output_first y.0 []) cell x.viewed y.2)
+          (w, y.0, output_left w.references w.completed w.closed k l z, y.1, did p q (row GiveUpOutput w ∷ []) OutputCloser (work_first y.0 []) cell x.viewed y.2)
 
   -- the Task is given up whose output was dropped
   pub gives_rest : (p q r : Party F T A) (w : State) → Did (act DropOutput ∷ []) Detacher p q → r.seat.block ≡ q.seat.block → w.closed ≡ true → Makes (giving_task_up w) w q.seat.me r.seat.me → GivesTaskUp p r (nat_eq w.references 0)
@@ -87,7 +87,7 @@ module _ {F T A : Type 0} where
             w,
             y.0,
             both (nat_eq w.references 0) w.closed (none_left w.references counted) closed,
-            did_then p q r (act DropOutput ∷ []) path Detacher at [] ((2, y.0) ∷ []) g (did q r path at ((2, y.0) ∷ []) cell x.viewed y.2),
+            did_then p q r (act DropOutput ∷ []) path Detacher at [] (awaiter_first y.0 []) g (did q r path at (awaiter_first y.0 []) cell x.viewed y.2),
           )
 
   -- the call ends
@@ -108,8 +108,8 @@ module _ {F T A : Type 0} where
 
 module _ (F T A : Type 0) (limit : ℕ) where
   -- the rule allows a Task to cancel, and to be detached
-  pub may_cancel : (p : Party F T A) (n : ℕ) → Stands (as_task n) p → MayTry limit 3 p.seat.id p.seat.me to_cancel × MayBring limit p.seat.id p.seat.me to_cancel
+  pub may_cancel : (p : Party F T A) (n : ℕ) → Stands (as_task n) p → MayTry limit 2 p.seat.id p.seat.me to_cancel × MayBring limit p.seat.id p.seat.me to_cancel
   may_cancel p n s = may_bring_at limit p (At (Task n)) [] s to_cancel (λ w. refl) (cancels F T A limit n (deeds p) [] []) (cancels_task limit n (deeds p) [] F T A) (finds_over F T A limit n (deeds p) [] [])
 
-  pub may_detach : (p : Party F T A) (n : ℕ) → Stands (as_task n) p → MayTry limit 3 p.seat.id p.seat.me to_detach × MayGive limit p.seat.id p.seat.me to_detach
+  pub may_detach : (p : Party F T A) (n : ℕ) → Stands (as_task n) p → MayTry limit 2 p.seat.id p.seat.me to_detach × MayGive limit p.seat.id p.seat.me to_detach
   may_detach p n s = may_give_at limit p (At (Task n)) [] s to_detach (λ w. refl) (detaches F T A limit n (deeds p) [] []) (detaches_task limit n (deeds p) [] F T A) (never_ends F T A limit to_detach (At (Task n)) (deeds p) [] [] (λ w. refl))

@@ -6,7 +6,6 @@ pub use Rattle.std.specs.Prelude.{Err, IfErr, IfOk, Ok, Result, if◌then◌else
 pub use Rattle.task_cell.specs.Calls.{Fits, Did, DidWith, IsNew, MayGiveUp, MayMake, MayNote, Notifies, Sees, Stands, StandsWith, deeds, finds_none, places_of, limit_of, misses, position}
 pub use Rattle.task_cell.specs.Calls.{takes_awaiter}
 pub use Rattle.task_cell.specs.Handed.{HandedOver, PolledOnce}
-pub use Rattle.task_cell.specs.LastWord.{IsLastWord, LastWordIf}
 pub use Rattle.task_cell.specs.PollPaths.{AnswerPath, BeginsRegister, ClaimsOutput, EndsRegister, Looks, LooksAgain, PollPath, RegisterPath, Registers}
 pub use Rattle.task_cell.specs.PollPaths.{TakePath, TakePathIf, begins, claims_output, claims_output_now, clone_refused, dropped_if, ends, finds_ended}
 pub use Rattle.task_cell.specs.PollPaths.{finds_notified, finds_one, finds_output, has_ended_since, has_output_since, has_to_wait_on, is_registered, sees_end}
@@ -21,6 +20,8 @@ pub use Rattle.task_cell.specs.TaskPaths.{CancelPath, Cancels, DetachPath, Detac
 pub use Rattle.task_cell.specs.TaskPaths.{is_shared, not_due, woke}
 pub use Rattle.task_cell.specs.WakerPaths.{DropsWaker, Gains, WakerDropPath, WakesTask, finds_limit, gains_none, gains_one, is_gained}
 pub use Rattle.task_cell.specs.WakerPaths.{is_running, is_scheduled, leaves_none, leaves_orphan, leaves_others, makes_none, makes_one}
+pub use Rattle.counted_block.specs.declared.place.Place.TheVariants.{First, Second}
+pub use Rattle.task_cell.specs.Witnessed.{IsWitnessed, WasMade, Witnesses}
 pub use Rattle.task_cell.specs.declared.cell.Party.{Party}
 pub use Rattle.task_core.specs.Rows.{found, written}
 pub use Rattle.task_core.specs.Word.{State, is_open, number_of, state_of}
@@ -47,14 +48,14 @@ pub use Rattle.task_laws.specs.declared.positions.OnceDelivered.TheVariants.{The
 pub use Rattle.task_laws.specs.declared.positions.PollAnswer.TheVariants.{IsClosed, IsPending}
 pub use Rattle.task_laws.specs.declared.positions.Position.{Position}
 pub use Rattle.task_laws.specs.declared.positions.Position.TheVariants.{Answering, At, AwaiterInHand, CallEnding, CloneInHand, Deliverer, Detacher, Emptier}
-pub use Rattle.task_laws.specs.declared.positions.Position.TheVariants.{FutureInHand, GivingUp, Looking, Notifier, OrphanHolder, OutputCloser, OutputInHand}
-pub use Rattle.task_laws.specs.declared.positions.Position.TheVariants.{Pending, PendingFutureDropped, Polling, Ready, Registered, Registrar, Releaser}
+pub use Rattle.task_laws.specs.declared.positions.Position.TheVariants.{FutureGone, GivingUp, Looking, Notifier, OrphanHolder, OutputCloser, OutputInHand}
+pub use Rattle.task_laws.specs.declared.positions.Position.TheVariants.{Pending, PendingFutureDropped, Polling, ReadyFutureDropped, Registered, Registrar, Releaser}
 pub use Rattle.task_laws.specs.declared.positions.Position.TheVariants.{SawOutput, Starting, TookBack, TookOutput, UnusedClone}
 pub use Rattle.task_laws.specs.declared.positions.Rest.{Rest}
 pub use Rattle.task_laws.specs.declared.positions.Rest.TheVariants.{Ended, Lent, Runnable, Task, Waker}
 pub use Rattle.task_laws.specs.declared.positions.WithoutPoll.TheVariants.{ClosedRun, DroppedRunnable}
 pub use Rattle.task_steps.proofs.Acts.{both}
-pub use Rattle.task_steps.proofs.Advance.{Finds, Steps, lies_there, takes_future}
+pub use Rattle.task_steps.proofs.Advance.{Finds, Steps, future_lies, takes_future}
 pub use Rattle.task_steps.proofs.Allowed.{Owes, OwesEnd}
 pub use Rattle.task_steps.proofs.Attempts.{may_try, never_ends}
 pub use Rattle.task_steps.proofs.AwaiterOwed.{drops, on_free, on_work, releases_awaiter, same_way, takes, wakes}
@@ -75,19 +76,21 @@ pub use Rattle.task_steps.proofs.WakerOwed.{closes_orphan, drops_waker, gains}
 pub use Rattle.task_steps.proofs.WakerSeats.{parts_newest}
 pub use Rattle.task_steps.specs.Attempts.{HasChanged, HasEnded, HasSeen, MayTry, Names, attempted, having_seen, looked, missed, observed}
 pub use Rattle.task_steps.specs.Deeds.{act, after, row}
-pub use Rattle.task_steps.specs.Held.{awaiter_in, held}
+pub use Rattle.task_steps.specs.Held.{held}
 pub use Rattle.task_steps.specs.PollScripts.{has_ended, has_output, has_to_wait}
-pub use Rattle.task_steps.specs.Rule.{AtHome, Explains, IsEmpty, IsFuture, IsOutput, RuleHolds, Running, Waits, filling_view, fresh, has_work, laid_view}
-pub use Rattle.task_steps.specs.Rule.{member, opening_at, opening_view, view}
+pub use Rattle.task_steps.specs.Rule.{Explains, IsEmpty, IsFuture, IsOutput, RuleHolds, Running, Waits, filling_view, fresh, has_work, laid_view}
+pub use Rattle.task_steps.specs.Rule.{TaskPlace, WorkAtHome, member, opening_at, opening_view, view}
 pub use Rattle.task_steps.specs.Scripts.{dropping_output, releasing_awaiter, taking_awaiter}
 pub use Rattle.task_steps.specs.Standing.{as_deliverer, as_ended, as_runnable, as_task, as_waker, closing_way, handed_over, poll_number, rest_of, way_of}
-pub use Rattle.task_steps.specs.Steps.{Awaits, Carried, Carries, Makes, TakesOutput, Works, acted, all_fit, and_then, born_of, future_first, head_of, held_word}
-pub use Rattle.task_steps.specs.Steps.{leaves_by, leaves_such, next_of, noted, output_first, saw, saw_closed, saw_ended, spot}
+pub use Rattle.task_steps.specs.Steps.{Awaits, Carried, Carries, Makes, TakesOutput, Works, acted, all_fit, and_then, awaiter_first, born_of, head_of, held_word}
+pub use Rattle.task_steps.specs.Steps.{leaves_by, leaves_such, next_of, noted, saw, saw_closed, saw_ended, spot, work_first}
+pub use Rattle.task_steps.specs.Witness.{Witness}
+pub use Rattle.task_steps.proofs.Witnessed.{may_note_witness, may_witness, tells}
 pub use Rattle.task_steps.specs.WakerScripts.{at_limit, closing_orphan, dropped_by, dropping_waker, others_left, to_gain, to_wake}
 pub use Rattle.task_steps.specs.declared.table.Deed.{Deed}
 pub use Rattle.task_steps.specs.declared.table.Member.{Member}
 pub use Rattle.task_steps.specs.declared.table.Slot.{Slot}
-pub use Rattle.task_steps.specs.declared.table.Slot.TheVariants.{Awaiter, Empty, Future, Output}
+pub use Rattle.task_steps.specs.declared.table.Slot.TheVariants.{Empty, Future, Output}
 pub use Rattle.task_steps.specs.declared.table.View.{View}
 pub use Rattle.task_steps.specs.declared.task.Cancelled.TheVariants.{Busy}
 pub use Rattle.task_steps.specs.declared.task.Detached.TheVariants.{Unclaimed}

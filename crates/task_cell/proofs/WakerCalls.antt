@@ -1,9 +1,20 @@
--- A waker's drop, put together from its steps.
+-- A waker's drop, put together from its steps, and what answers of a waker's calls hold.
+use Rattle.task_cell.proofs.Vocabulary.{◌≡◌, true, is_some, never, Option, Some, None, Result, Ok, Err, IfSome, IfOk, IfErr}
 use Rattle.task_cell.proofs.Vocabulary.{false, List, [], ◌∷◌, ◌++◌, State, Nothing, Deliverer, OrphanHolder, ThenEnds, DropWaker, DropLastWaker, OrphanTask, CloseOrphan, EmptySlots}
 use Rattle.task_cell.proofs.Vocabulary.{EndCall, HandOver, Deed, Party, Shared, Last, Did, row, act, as_ended, WakerDropPath, leaves_others, leaves_none, leaves_orphan, DropsWaker}
 use Rattle.task_steps.specs.declared.waker.Dropped.TheVariants.{Orphaned}
 use Rattle.task_cell.proofs.Moved.{did_then}
 use Rattle.task_cell.proofs.TaskCalls.{Empties, empties}
+
+-- what an answer holds that is there
+pub is_given : {X : Type 0} (P : X → Type 0) (r : Option X) → is_some r ≡ true → IfSome r P → (x : X) × P x
+is_given P (Some x) e p = (x, p)
+is_given P None e p = never e
+
+-- what a clone says, of either answer
+pub clone_says : {X Y : Type 0} (A B C : X → Type 0) (D : Type 0) (E : Y → Type 0) (r : Result X Y) → IfOk r A → IfOk r B → IfOk r C → IfOk r (λ _. D) → IfErr r E → IfOk r (λ x. A x × B x × C x × D) × IfErr r E
+clone_says A B C D E (Ok x) a b c d e = ((a, b, c, d), e)
+clone_says A B C D E (Err y) a b c d e = (a, e)
 
 module _ {F T A : Type 0} where
   -- a waker's drop goes such a path

@@ -1,14 +1,14 @@
 -- What the steps of a lent waker, and of a waker's drop, come to for the party that made them.
 use Rattle.task_cell.proofs.Vocabulary.{◌≡◌, ℕ, Bool, true, false, List, [], ◌∷◌, Option, Some, None, IfSome, is_some, refl, sym, ap, ◌∙◌, subst, nat_lt, if◌then◌else◌, Me, State, is_open}
 use Rattle.task_cell.proofs.Vocabulary.{Slots, is_held, Nothing, Waker, Lent, Ended, ThenEnds, Position, At, Deliverer, Emptier, OrphanHolder, Act, GainReference, FindLimit}
-use Rattle.task_cell.proofs.Vocabulary.{DropWaker, DropLastWaker, OrphanTask, CloseOrphan, WakeOver, WakeScheduled, WakeRunning, WakeIdle, EndCall, Slot, Deed, Member, View, Party, Shared}
+use Rattle.task_cell.proofs.Vocabulary.{DropWaker, DropLastWaker, OrphanTask, CloseOrphan, WakeOver, WakeScheduled, WakeRunning, WakeIdle, EndCall, Deed, Member, View, Party, Shared}
 use Rattle.task_cell.proofs.Vocabulary.{Last, member, view, fresh, head_of, acted, Carried, Makes, deeds, limit_of, IsNew, Sees, Stands, Did, row, act, after, as_waker, as_deliverer, MayTry, HasChanged}
 use Rattle.task_cell.proofs.Vocabulary.{HasEnded, others_left, at_limit, to_gain, to_wake}
 use Rattle.task_steps.specs.WakerScripts.{dropping_as, waking_task, brings_runnable}
 use Rattle.task_steps.specs.declared.waker.Woken.{Woken}
 use Rattle.task_steps.specs.declared.waker.Woken.TheVariants.{Scheduled, Running, Idle}
 use Rattle.task_cell.proofs.Vocabulary.{dropping_waker, closing_orphan, is_gained, finds_limit, is_scheduled, is_running, Gains, gains_none, gains_one, WakesTask}
-use Rattle.task_cell.proofs.Vocabulary.{makes_none, makes_one, DropsWaker, dropped_by, gains, not_true}
+use Rattle.task_cell.proofs.Vocabulary.{makes_none, makes_one, DropsWaker, dropped_by, gains, not_true, TaskPlace, awaiter_first}
 use Rattle.task_core.specs.Rows.{found}
 use Rattle.task_steps.proofs.WakerOwed.{scheduled_fits}
 use Rattle.task_steps.proofs.Seen.{right_true}
@@ -41,14 +41,14 @@ module _ {F T A : Type 0} where
   -- a party that has done nothing, alone on its seat
   pub fresh_stands : (at : Position) (l : ℕ) (p : Party F T A) → p.seat.me ≡ (view l (fresh at ∷ []), []) → Stands at p
   fresh_stands at l p is = is ∙ ap (λ (z : ℕ × List Deed). (view z.0 (member at z.1 ∷ []), []))
-      (λ i. (sym (ap (λ (x : Me (Slot F T A) View). x.0.limit) is) i, sym (ap (λ (x : Me (Slot F T A) View). (head_of x.0.members).deeds) is) i))
+      (λ i. (sym (ap (λ (x : Me (TaskPlace F T A) View). x.0.limit) is) i, sym (ap (λ (x : Me (TaskPlace F T A) View). (head_of x.0.members).deeds) is) i))
 
   -- the party of a call by reference may be let go after the call
   abbrev MayGo : Party F T A → Type 0
   MayGo q = Stands (At Lent) q × (is_spent q.seat.me.0 ≡ true)
 
   is_spent_after : (first last : Deed) (p q : Party F T A) → Did (first ∷ last ∷ []) (At Lent) p q → MayGo q
-  is_spent_after first last p q g = (stands p q (first ∷ last ∷ []) (At Lent) [] g, ap (λ (x : Me (Slot F T A) View). is_spent x.0) g.is)
+  is_spent_after first last p q g = (stands p q (first ∷ last ∷ []) (At Lent) [] g, ap (λ (x : Me (TaskPlace F T A) View). is_spent x.0) g.is)
 
   spent_by_row : (woken : Bool) (path : List Deed) (p q : Party F T A) → TaskWakePath woken path → Did path (At Lent) p q → MayGo q
   spent_by_row _ _ p q (paths.is_over w f) g = is_spent_after (row WakeOver w) (act EndCall) p q g
@@ -70,7 +70,7 @@ module _ {F T A : Type 0} where
 
   -- the deliverer that a wake makes
   pub wake_gives : {X : Type 0} (limit : ℕ) (block : BlockId) (p q : Party F T A) (made : X × Party F T A) → p.seat.block ≡ block → limit_of p ≡ limit → WakesTask p q (second (Some made)) → (made.1.seat.block ≡ block) × (limit_of made.1 ≡ limit) × Stands as_deliverer made.1
-  wake_gives limit block p q d cell is (makes_one path x w g n) = (n.cell ∙ cell, ap (λ (m : Me (Slot F T A) View). m.0.limit) n.is ∙ is, fresh_stands as_deliverer (limit_of p) d.1 n.is)
+  wake_gives limit block p q d cell is (makes_one path x w g n) = (n.cell ∙ cell, ap (λ (m : Me (TaskPlace F T A) View). m.0.limit) n.is ∙ is, fresh_stands as_deliverer (limit_of p) d.1 n.is)
 
   -- a party of this cell that was lent for a call has done this in it, and nothing else
   abbrev Made : BlockId → ℕ → List Deed → Party F T A → Type 0
@@ -78,7 +78,7 @@ module _ {F T A : Type 0} where
 
   did_from_none : (block : BlockId) (limit : ℕ) (path : List Deed) (p q r : Party F T A) → Made block limit [] p → r ≡ q → Did path (At Lent) p q → Made block limit path r
   did_from_none block limit path p q r m e g = subst (Made block limit path) (sym e)
-      (g.cell ∙ m.0, g.is ∙ ap (λ (x : Me (Slot F T A) View). (view x.0.limit (member (At Lent) (after path (head_of x.0.members).deeds) ∷ []), [])) m.1)
+      (g.cell ∙ m.0, g.is ∙ ap (λ (x : Me (TaskPlace F T A) View). (view x.0.limit (member (At Lent) (after path (head_of x.0.members).deeds) ∷ []), [])) m.1)
 
   -- what the record of a call by reference says
   pub wake_made : (block : BlockId) (limit : ℕ) (p q r : Party F T A) (made : Option (Party F T A)) → Made block limit [] p → r ≡ q → WakesTask p q made → (path : List Deed) × TaskWakePath (is_some made) path × Made block limit path r
@@ -92,7 +92,7 @@ module _ {F T A : Type 0} where
 
   -- a party has the same limit when it has seen a word
   pub limit_before : (w : State) (p q : Party F T A) → Sees w p q → limit_of p ≡ limit_of q
-  limit_before w p q s = sym (ap (λ (m : Me (Slot F T A) View). m.0.limit) s.seen.is)
+  limit_before w p q s = sym (ap (λ (m : Me (TaskPlace F T A) View). m.0.limit) s.seen.is)
 
   -- what a gain by reference makes
   pub gain_gives : {X : Type 0} (limit : ℕ) (block : BlockId) (p q : Party F T A) (made : Option (X × Party F T A)) → p.seat.block ≡ block → limit_of p ≡ limit → Gains limit p q (second made)
@@ -105,10 +105,10 @@ module _ {F T A : Type 0} where
   beside_waker limit r p q s x = let w = x.word in back w (GainReference ∷ EndCall ∷ []) (row GainReference w ∷ act EndCall ∷ []) (fresh (At Waker) ∷ []) p q s (λ slots l ds. refl) x.made
 
   leaves_newest : (path : List Deed) (n : Member) (p q t : Party F T A) → Beside path (n ∷ []) p q → q.seat.block ≡ p.seat.block → t.seat.block ≡ q.seat.block → t.seat.me ≡ (without_newest q.seat.me.0, q.seat.me.1) → Did path (At Lent) p t
-  leaves_newest path n p q t b cell there is = record { cell = there ∙ cell; is = is ∙ ap (λ (x : Me (Slot F T A) View). (without_newest x.0, x.1)) b }
+  leaves_newest path n p q t b cell there is = record { cell = there ∙ cell; is = is ∙ ap (λ (x : Me (TaskPlace F T A) View). (without_newest x.0, x.1)) b }
 
   is_newest : (path : List Deed) (at : Position) (p q x : Party F T A) → Beside path (fresh at ∷ []) p q → q.seat.block ≡ p.seat.block → x.seat.block ≡ q.seat.block → x.seat.me ≡ (newest q.seat.me.0, []) → IsNew at p x
-  is_newest path at p q x b cell there is = record { cell = there ∙ cell; is = is ∙ ap (λ (y : Me (Slot F T A) View). (newest y.0, [])) b }
+  is_newest path at p q x b cell there is = record { cell = there ∙ cell; is = is ∙ ap (λ (y : Me (TaskPlace F T A) View). (newest y.0, [])) b }
 
   pub gains_waker : (limit : ℕ) (r : Unit {0}) (p q t x : Party F T A) → Stands (At Lent) p → q.seat.block ≡ p.seat.block → HasChanged limit to_gain r p.seat.me q.seat.me → t.seat.block ≡ q.seat.block → t.seat.me ≡ (without_newest q.seat.me.0, q.seat.me.1)
       → x.seat.block ≡ q.seat.block → x.seat.me ≡ (newest q.seat.me.0, []) → Gains limit p t (Some x)
@@ -168,7 +168,7 @@ module _ {F T A : Type 0} where
       made false true shared now m = let x = moved (OrphanTask ∷ []) w (At Waker) [] p q s m in
           (w, shared, now, did p q (row OrphanTask w ∷ []) OrphanHolder [] cell x.viewed x.carried)
       made false false shared now m = let x = moved (DropLastWaker ∷ []) w (At Waker) [] p q s m in let y = x.carried in
-          (w, y.0, shared, now, did p q (row DropLastWaker w ∷ []) (Emptier None Nothing) ((2, y.0) ∷ []) cell x.viewed y.2)
+          (w, y.0, shared, now, did p q (row DropLastWaker w ∷ []) (Emptier None Nothing) (awaiter_first y.0 []) cell x.viewed y.2)
 
   -- the last waker has closed the task
   pub closes_orphan : (w : State) (p q : Party F T A) → Stands OrphanHolder p → q.seat.block ≡ p.seat.block → Makes (closing_orphan w) w p.seat.me q.seat.me → (v : State) × Did (row CloseOrphan v ∷ []) (Deliverer false (ThenEnds Nothing)) p q
@@ -176,8 +176,8 @@ module _ {F T A : Type 0} where
 
 module _ (F T A : Type 0) (limit : ℕ) where
   -- the rule allows a lent waker to gain a reference, and to wake
-  pub may_gain : (p : Party F T A) → Stands (At Lent) p → limit_of p ≡ limit → MayTry limit 3 p.seat.id p.seat.me to_gain × MayBring limit p.seat.id p.seat.me to_gain
+  pub may_gain : (p : Party F T A) → Stands (At Lent) p → limit_of p ≡ limit → MayTry limit 2 p.seat.id p.seat.me to_gain × MayBring limit p.seat.id p.seat.me to_gain
   may_gain p s is = may_bring_at limit p (At Lent) [] s to_gain (λ w. ap (λ l. at_limit l w) is) (owed.gains F T A limit Lent (deeds p) [] [] refl) (gains_handle limit Lent (deeds p) [] F T A) (owed.finds_limit F T A limit Lent (deeds p) [] [] refl)
 
-  pub may_wake : (p : Party F T A) → Stands (At Lent) p → MayTry limit 3 p.seat.id p.seat.me to_wake × MayBring limit p.seat.id p.seat.me to_wake
+  pub may_wake : (p : Party F T A) → Stands (At Lent) p → MayTry limit 2 p.seat.id p.seat.me to_wake × MayBring limit p.seat.id p.seat.me to_wake
   may_wake p s = may_bring_at limit p (At Lent) [] s to_wake (λ w. refl) (owed.wakes F T A limit Lent (deeds p) [] [] refl) (wakes_task limit Lent (deeds p) [] F T A) (owed.finds_over F T A limit Lent (deeds p) [] [] refl)

@@ -10,13 +10,14 @@ use Rattle.task_cell.specs.declared.cell.ledger.Ledger.{Ledger}
 use Rattle.task_steps.specs.declared.table.Deed.{Deed}
 use Rattle.task_steps.specs.Deeds.{after}
 use Rattle.task_steps.specs.Rule.{member, view}
-use Rattle.task_steps.specs.Standing.{as_lent}
+use Rattle.task_steps.specs.Standing.{as_ended, as_lent}
 
 module _ {R F Q M A B O : Type 0} {G : Ghosts F O} where
   -- which cell it is, and what lies there beside the word and the places
   abbrev pub cell_of : Share R F Q M A B O G → BlockId × Cell R Q M B
   cell_of share = (share.block.id, share.block.value)
 
+  -- the limit of references of its cell
   abbrev pub limit_in : Share R F Q M A B O G → ℕ
   limit_in share = share.block.key
 
@@ -34,6 +35,12 @@ module _ {R F Q M A B O T : Type 0} {G : Ghosts F O} where
   HasMade share path party =
       (party.seat.block ≡ share.block.id) × (party.seat.me ≡ (view share.block.key (member as_lent (after path []) ∷ []), []))
 
+  -- .. or a party that was there before has, and has ended by it
+  abbrev pub HasEnded : Share R F Q M A B O G → List Deed → Party F T A → Type 0
+  HasEnded share path party =
+      (party.seat.block ≡ share.block.id) × (party.seat.me ≡ (view share.block.key (member as_ended (after path []) ∷ []), []))
+
+  -- the ledger is of the party's cell
   abbrev pub IsBeside : Ledger R F Q M A B O G → Party F T A → Type 0
   IsBeside ledger party = party.seat.block ≡ ledger.ledger.id
 

@@ -1,5 +1,5 @@
 -- What a call of the cell asks of its party, and says of it.
-use Rattle.std.specs.Prelude.{◌≡◌, ◌<◌, ℕ, List, [], ◌∷◌, Bool, true, false, Option, Some, None, is_some}
+use Rattle.std.specs.Prelude.{◌≡◌, ℕ, List, [], ◌∷◌, Bool, true, false, Option, Some, None, is_some}
 use Rattle.atomic_table.specs.Table.{Me, Allows, Splits}
 use Rattle.counted_block.specs.Counts.{Same, More, Less, Notes}
 use Rattle.task_core.specs.Word.{HasRoom, State, state_of}
@@ -11,14 +11,13 @@ use Rattle.task_laws.specs.declared.positions.Position.TheVariants.{Releaser}
 use Rattle.task_core.specs.declared.acts.Act.TheVariants.{MissNotify, BeginNotify, TakeAwaiter, EndNotify}
 use Rattle.task_laws.specs.Table.{after_taking}
 use Rattle.task_steps.specs.declared.places.Held.{Held}
-use Rattle.task_steps.specs.declared.table.Slot.{Slot}
 use Rattle.task_steps.specs.declared.table.Deed.{Deed}
 use Rattle.task_steps.specs.declared.table.View.{View}
 use Rattle.task_cell.specs.declared.cell.Party.{Party}
-use Rattle.task_steps.specs.Rule.{member, view, fresh, RuleHolds, Waits}
+use Rattle.task_steps.specs.Rule.{member, view, fresh, RuleHolds, Waits, TaskPlace}
 use Rattle.task_steps.specs.Deeds.{row, act, after}
 use Rattle.task_steps.specs.Standing.{way_of}
-use Rattle.task_steps.specs.Steps.{head_of, Makes}
+use Rattle.task_steps.specs.Steps.{head_of, Makes, awaiter_first}
 use Rattle.task_steps.specs.Knows.{Knows}
 use Rattle.task_steps.specs.Attempts.{HasSeen}
 use Rattle.task_steps.specs.Shares.{shares_out}
@@ -32,39 +31,44 @@ module _ {F T A : Type 0} where
   abbrev pub deeds : Party F T A → List Deed
   deeds p = (head_of p.seat.me.0.members).deeds
 
+  -- where the party stands
   abbrev pub position : Party F T A → Position
   position p = (head_of p.seat.me.0.members).at
 
   -- the places of the table that the party has, each with its value
-  abbrev pub places_of : Party F T A → List (ℕ × Slot F T A)
+  abbrev pub places_of : Party F T A → List (ℕ × TaskPlace F T A)
   places_of p = p.seat.me.1
 
+  -- the limit of references, as the party's seat knows it
   abbrev pub limit_of : Party F T A → ℕ
   limit_of p = p.seat.me.0.limit
 
   -- the party is alone on its seat, stands here and has these places
-  abbrev pub StandsWith : Position → List (ℕ × Slot F T A) → Party F T A → Type 0
+  abbrev pub StandsWith : Position → List (ℕ × TaskPlace F T A) → Party F T A → Type 0
   StandsWith at held p = p.seat.me ≡ (view (limit_of p) (member at (deeds p) ∷ []), held)
 
+  -- the party is alone on its seat, stands here, and has no place
   abbrev pub Stands : Position → Party F T A → Type 0
   Stands at p = StandsWith at [] p
 
   -- the rule allows a seat to write this number in the place of the one that it finds, and to go on like this
-  abbrev pub MayWrite : ℕ → ℕ → Me (Slot F T A) View → (ℕ → ℕ) → (ℕ → Me (Slot F T A) View → Type 0) → Type 0
-  MayWrite limit id me write then = Allows (RuleHolds {F = F} {T = T} {A = A} limit) 3 id me 0 write then
+  abbrev pub MayWrite : ℕ → ℕ → Me (TaskPlace F T A) View → (ℕ → ℕ) → (ℕ → Me (TaskPlace F T A) View → Type 0) → Type 0
+  MayWrite limit id me write then = Allows (RuleHolds {F = F} {T = T} {A = A} limit) 2 id me 0 write then
 
-  -- .. which leaves as many shares out, or brings one, or ends one, where this says so
-  abbrev pub KeepsShares : ℕ → ℕ → Me (Slot F T A) View → (ℕ → ℕ) → Type 0
+  -- .. which leaves as many shares out
+  abbrev pub KeepsShares : ℕ → ℕ → Me (TaskPlace F T A) View → (ℕ → ℕ) → Type 0
   KeepsShares limit id me write = Same (RuleHolds {F = F} {T = T} {A = A} limit) shares_out id me.0 write
 
-  abbrev pub BringsShare : ℕ → ℕ → Me (Slot F T A) View → (ℕ → ℕ) → (ℕ → Bool) → Type 0
+  -- the step brings a share where this says so
+  abbrev pub BringsShare : ℕ → ℕ → Me (TaskPlace F T A) View → (ℕ → ℕ) → (ℕ → Bool) → Type 0
   BringsShare limit id me write counts = More (RuleHolds {F = F} {T = T} {A = A} limit) shares_out id me.0 write counts
 
-  abbrev pub EndsShare : ℕ → ℕ → Me (Slot F T A) View → (ℕ → ℕ) → (ℕ → Bool) → Type 0
+  -- the step ends a share where this says so
+  abbrev pub EndsShare : ℕ → ℕ → Me (TaskPlace F T A) View → (ℕ → ℕ) → (ℕ → Bool) → Type 0
   EndsShare limit id me write counts = Less (RuleHolds {F = F} {T = T} {A = A} limit) shares_out id me.0 write counts
 
   -- the party has made these acts by the word that was found, of which it knows what it has seen before
-  abbrev pub HasActed : (State → List Act) → Party F T A → ℕ → Me (Slot F T A) View → Type 0
+  abbrev pub HasActed : (State → List Act) → Party F T A → ℕ → Me (TaskPlace F T A) View → Type 0
   HasActed acts p n me = Makes (acts (state_of n)) (state_of n) p.seat.me me × Knows (deeds p) (state_of n)
 
   -- the rule allows the party these acts, which leave as many shares out
@@ -84,7 +88,7 @@ module _ {F T A : Type 0} where
   MayNote limit acts p = Notes (RuleHolds {F = F} {T = T} {A = A} limit) p.seat.id p.seat.me (HasActed acts p)
 
   -- p did this path, and is q now: it stands here, and has these places
-  pub record DidWith (path : List Deed) (at : Position) (held : List (ℕ × Slot F T A)) (p q : Party F T A) : Type 0 where
+  pub record DidWith (path : List Deed) (at : Position) (held : List (ℕ × TaskPlace F T A)) (p q : Party F T A) : Type 0 where
     pub cell : q.seat.block ≡ p.seat.block
     pub is : q.seat.me ≡ (view (limit_of p) (member at (after path (deeds p)) ∷ []), held)
 
@@ -95,6 +99,7 @@ module _ {F T A : Type 0} where
     pub room : HasRoom w
     pub seen : HasSeen w p.seat.me q.seat.me
 
+  -- p did this path, and is q now: it stands here, and has no place
   abbrev pub Did : List Deed → Position → Party F T A → Party F T A → Type 0
   Did path at p q = DidWith path at [] p q
 
@@ -108,12 +113,12 @@ module _ {F T A : Type 0} where
   pub data BeginsNotify (p q : Party F T A) : Bool → Type 0 where
     finds_another : (w : State) → Fits MissNotify w
         → DidWith (row MissNotify w ∷ []) (after_taking None (way_of (position p))) (places_of p) p q → BeginsNotify p q false
-    takes_place : (w : State) (hand : Option ℕ) (y : Slot F T A) → Fits BeginNotify w → Waits hand y
-        → DidWith (row BeginNotify w ∷ act TakeAwaiter ∷ []) (Releaser hand (way_of (position p))) ((2, y) ∷ places_of p) p q
+    takes_place : (w : State) (hand : Option ℕ) (y : Option A) → Fits BeginNotify w → Waits hand y
+        → DidWith (row BeginNotify w ∷ act TakeAwaiter ∷ []) (Releaser hand (way_of (position p))) (awaiter_first y (places_of p)) p q
         → BeginsNotify p q true
 
   -- .. and the second: what lies there is taken out, and the place given back
-  pub record EndsNotify (hand : Option ℕ) (way : NotifyingCall) (held : List (ℕ × Slot F T A)) (p q : Party F T A) (found : Option (Held A))
+  pub record EndsNotify (hand : Option ℕ) (way : NotifyingCall) (held : List (ℕ × TaskPlace F T A)) (p q : Party F T A) (found : Option (Held A))
       : Type 0 where
     pub word : State
     pub is_there : is_some found ≡ is_some hand
@@ -135,10 +140,12 @@ abbrev pub first : {X Y : Type 0} → Option (X × Y) → Option X
 first None = None
 first (Some x) = Some x.0
 
+-- the second part of an answer, where there is one
 abbrev pub second : {X Y : Type 0} → Option (X × Y) → Option Y
 second None = None
 second (Some x) = Some x.1
 
+-- whether a list has nothing
 abbrev pub is_empty : {X : Type 0} → List X → Bool
 is_empty [] = true
 is_empty (x ∷ xs) = false

@@ -9,18 +9,19 @@ use Rattle.task_cell.specs.Belongs.{cell_of}
 use Rattle.task_cell.specs.declared.cell.Runnable.{Runnable}
 use Rattle.task_cell.specs.declared.cell.waker.TaskWaker.{TaskWaker}
 
-module _ {R F Q M A X B O : Type 0} {G : Ghosts F O} where
+-- K is the type of the records that the awaiter's calls answer
+module _ {R F Q M A X B O K : Type 0} {G : Ghosts F O} where
   -- a Runnable of this cell was handed to its schedule value, which was told whether the task was woken while it ran
-  abbrev pub HandedOver : (Q → Runnable R F Q M A X B O G → ScheduleInfo → Type 0) → BlockId × Cell R Q M B → X → Bool → Type 0
+  abbrev pub HandedOver : (Q → Runnable R F Q M A X B O K G → ScheduleInfo → Type 0) → BlockId × Cell R Q M B → X → Bool → Type 0
   HandedOver scheduled cell around woken =
-      (n : Runnable R F Q M A X B O G) × (cell_of n.inner.share ≡ cell) × (n.around ≡ around)
+      (n : Runnable R F Q M A X B O K G) × (cell_of n.inner.share ≡ cell) × (n.around ≡ around)
       × scheduled cell.1.schedule n (record { woken_while_running = woken })
 
   -- the future was polled, from f to g, with a waker of this cell
-  abbrev pub LentTo : (F → TaskWaker R F Q M A X B O G → Poll O → F → Type 0) → BlockId × Cell R Q M B → X → F → Poll O → F → Type 0
+  abbrev pub LentTo : (F → TaskWaker R F Q M A X B O K G → Poll O → F → Type 0) → BlockId × Cell R Q M B → X → F → Poll O → F → Type 0
   LentTo polled cell around f answer g =
-      (w : TaskWaker R F Q M A X B O G) × (cell_of w.inner.share ≡ cell) × (w.around ≡ around) × polled f w answer g
+      (w : TaskWaker R F Q M A X B O K G) × (cell_of w.inner.share ≡ cell) × (w.around ≡ around) × polled f w answer g
 
   -- .. as a run does
-  abbrev pub PolledOnce : (F → TaskWaker R F Q M A X B O G → Poll O → F → Type 0) → BlockId × Cell R Q M B → X → Poll O → Type 0
+  abbrev pub PolledOnce : (F → TaskWaker R F Q M A X B O K G → Poll O → F → Type 0) → BlockId × Cell R Q M B → X → Poll O → Type 0
   PolledOnce polled cell around answer = (f : F) × (g : F) × LentTo polled cell around f answer g

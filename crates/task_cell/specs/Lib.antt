@@ -1,7 +1,7 @@
 pub mod Fitting
 pub mod Belongs
 pub mod Calls
-pub mod LastWord
+pub mod Witnessed
 pub mod Starts
 pub mod RunPaths
 pub mod RunCalls
@@ -11,3 +11,5 @@ pub mod PollPaths
 pub mod Wakers
 pub mod WakerPaths
 pub mod Stores
+pub mod Gained
+pub mod WakerCalls

@@ -13,7 +13,7 @@ use Rattle.task_steps.specs.declared.table.Slot.{Slot}
 use Rattle.task_steps.specs.declared.table.Deed.{Deed}
 use Rattle.task_cell.specs.declared.cell.Party.{Party}
 use Rattle.task_steps.specs.Rule.{IsOutput, Waits as SlotWaits}
-use Rattle.task_steps.specs.Steps.{output_first}
+use Rattle.task_steps.specs.Steps.{work_first, awaiter_first}
 use Rattle.task_cell.specs.Calls.{Fits, Did, DidWith, places_of, position}
 use Rattle.task_steps.specs.Deeds.{row, act}
 use Rattle.task_steps.specs.Standing.{as_task, poll_number}
@@ -24,42 +24,43 @@ abbrev pub dropped_if : Bool → List Deed
 dropped_if true = act DropAwaiter ∷ []
 dropped_if false = []
 
-module _ {A : Type 0} where
+-- K is the type of the records that the awaiter's calls answer
+module _ {A K : Type 0} where
   -- the stored awaiter is taken: it is woken, or dropped where its wake wakes the caller
-  pub data TakePath (woken : A → Type 0) (compared : A → A → Bool → Type 0) (awaiter : A) : List Deed → Type 0 where
+  pub data TakePath (woken : A → K → Type 0) (compared : A → A → Bool → Type 0) (awaiter : A) : List Deed → Type 0 where
     misses : (w : State) → Fits MissNotify w → TakePath woken compared awaiter (row MissNotify w ∷ [])
     finds_none : (w v : State) → Fits BeginNotify w
         → TakePath woken compared awaiter (row BeginNotify w ∷ act TakeAwaiter ∷ row EndNotify v ∷ [])
-    wakes : (w v : State) (taken : A) → Fits BeginNotify w → compared taken awaiter false → woken taken
+    wakes : (w v : State) (taken : A) (told : K) → Fits BeginNotify w → compared taken awaiter false → woken taken told
         → TakePath woken compared awaiter (row BeginNotify w ∷ act TakeAwaiter ∷ row EndNotify v ∷ act WakeAwaiter ∷ [])
     drops : (w v : State) (taken : A) → Fits BeginNotify w → compared taken awaiter true
         → TakePath woken compared awaiter (row BeginNotify w ∷ act TakeAwaiter ∷ row EndNotify v ∷ act DropAwaiter ∷ [])
 
   -- .. where the word found says that there is one
-  abbrev pub TakePathIf : (A → Type 0) → (A → A → Bool → Type 0) → A → Bool → List Deed → Type 0
+  abbrev pub TakePathIf : (A → K → Type 0) → (A → A → Bool → Type 0) → A → Bool → List Deed → Type 0
   TakePathIf woken compared awaiter true path = TakePath woken compared awaiter path
   TakePathIf woken compared awaiter false path = path ≡ []
 
   -- the output is claimed on this word, and handed out
-  pub data ClaimPath (woken : A → Type 0) (compared : A → A → Bool → Type 0) (awaiter : A) (w : State) : List Deed → Type 0 where
+  pub data ClaimPath (woken : A → K → Type 0) (compared : A → A → Bool → Type 0) (awaiter : A) (w : State) : List Deed → Type 0 where
     claims : (taken : List Deed) → has_output w ≡ true → TakePathIf woken compared awaiter w.awaiter taken
         → ClaimPath woken compared awaiter w (row ClaimOutput w ∷ taken ++ (act HandOutOutput ∷ act EndCall ∷ []))
 
   -- the caller's awaiter is registered, or a wake is made up for
-  pub data RegisterPath (cloned : A → Option A → Type 0) (woken woken_by_ref : A → Type 0) (awaiter : A) : List Deed → Type 0 where
-    finds_notifier : (w : State) (clone : A) → w.notifying ≡ true → cloned awaiter (Some clone) → woken_by_ref awaiter
+  pub data RegisterPath (cloned : A → Result A K → Type 0) (woken woken_by_ref : A → K → Type 0) (awaiter : A) : List Deed → Type 0 where
+    finds_notifier : (w : State) (clone : A) (told : K) → w.notifying ≡ true → cloned awaiter (Ok clone) → woken_by_ref awaiter told
         → RegisterPath cloned woken woken_by_ref awaiter (act CloneAwaiter ∷ row FindNotify w ∷ act DropAwaiter ∷ [])
-    registers : (w v : State) (stood : Bool) (clone : A) → w.notifying ≡ false → v.notifying ≡ false → cloned awaiter (Some clone)
+    registers : (w v : State) (stood : Bool) (clone : A) → w.notifying ≡ false → v.notifying ≡ false → cloned awaiter (Ok clone)
         → RegisterPath cloned woken woken_by_ref awaiter
         (act CloneAwaiter ∷ row BeginRegister w ∷ act StoreAwaiter ∷ dropped_if stood ++ (row EndRegister v ∷ []))
-    was_notified : (w v : State) (stood : Bool) (clone : A) → w.notifying ≡ false → v.notifying ≡ true → cloned awaiter (Some clone)
-        → woken clone
+    was_notified : (w v : State) (stood : Bool) (clone : A) (told : K) → w.notifying ≡ false → v.notifying ≡ true → cloned awaiter (Ok clone)
+        → woken clone told
         → RegisterPath cloned woken woken_by_ref awaiter
         (act CloneAwaiter ∷ row BeginRegister w ∷ act StoreAwaiter ∷ dropped_if stood
         ++ (act TakeAwaiter ∷ row EndRegisterNotified v ∷ act WakeAwaiter ∷ []))
 
   -- a poll that has registered looks again, and answers by what it finds
-  pub data AnswerPath {T : Type 0} (woken : A → Type 0) (compared : A → A → Bool → Type 0) (awaiter : A) : List Deed → TaskPoll (Option T)
+  pub data AnswerPath {T : Type 0} (woken : A → K → Type 0) (compared : A → A → Bool → Type 0) (awaiter : A) : List Deed → TaskPoll (Option T)
       → Type 0 where
     waits : (w : State) → has_to_wait w ≡ true → AnswerPath woken compared awaiter (row Look w ∷ act EndCall ∷ []) Waits
     has_ended_since : (w : State) (taken : List Deed) → has_ended w ≡ true → TakePath woken compared awaiter taken
@@ -68,13 +69,13 @@ module _ {A : Type 0} where
         → AnswerPath woken compared awaiter (row Look w ∷ path) (Ready (Some x))
 
   -- a poll, by what its first look found
-  pub data PollPath {T : Type 0} (cloned : A → Option A → Type 0) (woken woken_by_ref : A → Type 0) (compared : A → A → Bool → Type 0)
+  pub data PollPath {T : Type 0} (cloned : A → Result A K → Type 0) (woken woken_by_ref : A → K → Type 0) (compared : A → A → Bool → Type 0)
       (awaiter : A) : List Deed → TaskPoll (Option T) → Type 0 where
     finds_output : (w : State) (path : List Deed) (x : T) → ClaimPath woken compared awaiter w path
         → PollPath cloned woken woken_by_ref compared awaiter path (Ready (Some x))
     finds_ended : (w : State) (taken : List Deed) → has_ended w ≡ true → TakePath woken compared awaiter taken
         → PollPath cloned woken woken_by_ref compared awaiter (row Look w ∷ taken ++ (act EndCall ∷ [])) (Ready None)
-    is_refused : (w : State) → has_output w ≡ false → has_ended w ≡ false → cloned awaiter None
+    is_refused : (w : State) (told : K) → has_output w ≡ false → has_ended w ≡ false → cloned awaiter (Err told)
         → PollPath cloned woken woken_by_ref compared awaiter (row Look w ∷ act RefuseClone ∷ act EndCall ∷ []) Refused
     looks_again : (w : State) (registered path : List Deed) (answer : TaskPoll (Option T)) → has_output w ≡ false → has_ended w ≡ false
         → RegisterPath cloned woken woken_by_ref awaiter registered → AnswerPath woken compared awaiter path answer
@@ -90,9 +91,9 @@ module _ {F T A : Type 0} where
   -- by this path the output was claimed, on this word
   pub record ClaimsOutput (w : State) (path : List Deed) (p q : Party F T A) : Type 0 where
     pub there : has_output w ≡ true
-    pub output : Slot F T A
+    pub output : Slot F T
     pub is_output : IsOutput output
-    pub did : DidWith path (notifies w.awaiter (OfClaim (poll_number (position p)))) (output_first output []) p q
+    pub did : DidWith path (notifies w.awaiter (OfClaim (poll_number (position p)))) (work_first output []) p q
 
   -- the first look of a poll
   pub data Looks (p q : Party F T A) : Result State State → Type 0 where
@@ -110,9 +111,9 @@ module _ {F T A : Type 0} where
 
   -- the awaiter slot is taken, unless there is a notifier
   pub data BeginsRegister (p q : Party F T A) : Bool → Type 0 where
-    begins : (w : State) (hand : Option ℕ) (y : Slot F T A) → w.notifying ≡ false → SlotWaits hand y
+    begins : (w : State) (hand : Option ℕ) (y : Option A) → w.notifying ≡ false → SlotWaits hand y
         → DidWith (act CloneAwaiter ∷ row BeginRegister w ∷ act StoreAwaiter ∷ []) (after_storing (poll_number (position p)) hand)
-        ((2, y) ∷ []) p q → BeginsRegister p q true
+        (awaiter_first y []) p q → BeginsRegister p q true
     finds_one : (w : State) → w.notifying ≡ true
         → Did (act CloneAwaiter ∷ row FindNotify w ∷ []) (UnusedClone (poll_number (position p))) p q → BeginsRegister p q false
 
@@ -123,9 +124,9 @@ module _ {F T A : Type 0} where
     finds_notified : DidWith (act TakeAwaiter ∷ []) (TookBack (poll_number (position p))) (places_of p) p q → EndsRegister p q false
 
   -- the caller's awaiter is registered, unless its clone is refused
-  pub data Registers (cloned : A → Option A → Type 0) (woken woken_by_ref : A → Type 0) (awaiter : A) (p q : Party F T A) : Bool
-      → Type 0 where
+  pub data Registers {K : Type 0} (cloned : A → Result A K → Type 0) (woken woken_by_ref : A → K → Type 0) (awaiter : A) (p q : Party F T A)
+      : Bool → Type 0 where
     is_registered : (path : List Deed) → RegisterPath cloned woken woken_by_ref awaiter path
         → Did path (Looking (poll_number (position p))) p q → Registers cloned woken woken_by_ref awaiter p q true
-    clone_refused : cloned awaiter None → Did (act RefuseClone ∷ act EndCall ∷ []) (as_task (poll_number (position p))) p q
+    clone_refused : (told : K) → cloned awaiter (Err told) → Did (act RefuseClone ∷ act EndCall ∷ []) (as_task (poll_number (position p))) p q
         → Registers cloned woken woken_by_ref awaiter p q false

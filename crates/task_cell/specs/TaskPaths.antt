@@ -17,7 +17,7 @@ use Rattle.task_steps.specs.declared.task.Cancelled.TheVariants.{Busy, Idle}
 use Rattle.task_steps.specs.declared.task.Detached.{Detached}
 use Rattle.task_steps.specs.declared.task.Detached.TheVariants.{Unclaimed, Shared, Last, Orphaned}
 use Rattle.task_steps.specs.Rule.{IsOutput}
-use Rattle.task_steps.specs.Steps.{output_first}
+use Rattle.task_steps.specs.Steps.{work_first, awaiter_first}
 use Rattle.task_cell.specs.Calls.{Fits, DidWith, Did}
 use Rattle.task_steps.specs.Deeds.{row, act}
 use Rattle.task_steps.specs.Standing.{as_ended, as_task}
@@ -68,16 +68,16 @@ module _ {F T A : Type 0} where
   -- the row by which a Task is given up
   abbrev pub Detaches : Party F T A → Party F T A → Detached → Type 0
   Detaches p q Unclaimed =
-      (w : State) × (z : Slot F T A) × Fits GiveUpOutput w × IsOutput z
-      × DidWith (row GiveUpOutput w ∷ []) OutputCloser (output_first z []) p q
+      (w : State) × (z : Slot F T) × Fits GiveUpOutput w × IsOutput z
+      × DidWith (row GiveUpOutput w ∷ []) OutputCloser (work_first z []) p q
   Detaches p q Shared = (w : State) × Fits Detach w × Did (row Detach w ∷ act EndCall ∷ []) as_ended p q
   Detaches p q Last =
-      (w : State) × (y : Slot F T A) × Fits DetachLast w × DidWith (row DetachLast w ∷ []) (Emptier None Nothing) ((2, y) ∷ []) p q
+      (w : State) × (y : Option A) × Fits DetachLast w × DidWith (row DetachLast w ∷ []) (Emptier None Nothing) (awaiter_first y []) p q
   Detaches p q Orphaned = (w : State) × Fits DetachOrphan w × Did (row DetachOrphan w ∷ []) (Deliverer false (ThenEnds Nothing)) p q
 
   -- the output that nobody claimed was dropped, and the Task given up; whether the slots are to be emptied
   abbrev pub GivesTaskUp : Party F T A → Party F T A → Bool → Type 0
   GivesTaskUp p q false = (w : State) × Fits Detach w × Did (act DropOutput ∷ row Detach w ∷ act EndCall ∷ []) as_ended p q
   GivesTaskUp p q true =
-      (w : State) × (y : Slot F T A) × Fits DetachLast w
-      × DidWith (act DropOutput ∷ row DetachLast w ∷ []) (Emptier None Nothing) ((2, y) ∷ []) p q
+      (w : State) × (y : Option A) × Fits DetachLast w
+      × DidWith (act DropOutput ∷ row DetachLast w ∷ []) (Emptier None Nothing) (awaiter_first y []) p q

@@ -7,7 +7,6 @@ use Rattle.task_laws.specs.declared.positions.Position.TheVariants.{Emptier, Orp
 use Rattle.task_core.specs.declared.acts.Act.TheVariants.{GainReference, FindLimit, DropWaker, DropLastWaker, OrphanTask}
 use Rattle.task_core.specs.declared.acts.Act.TheVariants.{CloseOrphan, WakeOver, WakeScheduled, WakeRunning, WakeIdle, EmptySlots, HandOver}
 use Rattle.task_core.specs.declared.acts.Act.TheVariants.{EndCall}
-use Rattle.task_steps.specs.declared.table.Slot.{Slot}
 use Rattle.task_steps.specs.declared.table.Deed.{Deed}
 use Rattle.task_cell.specs.declared.cell.Party.{Party}
 use Rattle.task_steps.specs.declared.waker.Dropped.{Dropped}
@@ -16,6 +15,7 @@ use Rattle.task_cell.specs.Calls.{Fits, IsNew, Did, DidWith}
 use Rattle.task_steps.specs.Deeds.{row, act}
 use Rattle.task_steps.specs.Standing.{as_waker, as_lent, as_ended, as_deliverer}
 use Rattle.task_steps.specs.WakerScripts.{others_left}
+use Rattle.task_steps.specs.Steps.{awaiter_first}
 
 -- a gain, and whether there is a new waker: the count was below the limit, or at it
 pub data GainPath (limit : ℕ) : Bool → List Deed → Type 0 where
@@ -59,6 +59,6 @@ module _ {F T A : Type 0} where
   abbrev pub DropsWaker : Party F T A → Party F T A → Dropped → Type 0
   DropsWaker p q Shared = (w : State) × (others_left w ≡ true) × Did (row DropWaker w ∷ act EndCall ∷ []) as_ended p q
   DropsWaker p q Last =
-      (w : State) × (y : Slot F T A) × (others_left w ≡ false) × (is_open w ≡ false)
-      × DidWith (row DropLastWaker w ∷ []) (Emptier None Nothing) ((2, y) ∷ []) p q
+      (w : State) × (y : Option A) × (others_left w ≡ false) × (is_open w ≡ false)
+      × DidWith (row DropLastWaker w ∷ []) (Emptier None Nothing) (awaiter_first y []) p q
   DropsWaker p q Orphaned = (w : State) × (others_left w ≡ false) × (is_open w ≡ true) × Did (row OrphanTask w ∷ []) OrphanHolder p q

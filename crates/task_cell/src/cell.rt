@@ -3,10 +3,12 @@ ghost use Rattle.std.specs.Prelude.{◌≡◌, ℕ, ◌<◌, [], ◌∷◌, true
 ghost use Rattle.task_steps.specs.Rule.{view, fresh};
 ghost use Rattle.task_steps.specs.Seats.{is_spent};
 ghost use Rattle.task_cell.specs.Calls.{limit_of, deeds, Stands};
-ghost use Rattle.task_steps.specs.Standing.{as_runnable, as_ended, as_lent};
+ghost use Rattle.task_cell.specs.Witnessed.{IsWitnessed, Witnesses};
+ghost use Rattle.task_steps.specs.Standing.{as_runnable, as_ended};
 
 use std::alloc::{Allocator, Global};
 use std::sync::Wait;
+use task_core::word::Word;
 use task_core::{Wake, Yields};
 use task_steps::table::{Kept, TaskSeat, discard};
 
@@ -26,28 +28,21 @@ pub struct Party<F, T, A> {
 }
 
 impl<F, T, A> Party<F, T, A> {
-    /// The record of the call by which this party has ended, which is alone on its seat.
-    pub fn let_go(self) -> EndedCall<F, T, A>
+    /// Lets the party go, which has ended, and is alone on its seat.
+    pub fn let_go(self)
         requires { Stands as_ended self }
-        ensures { result.party ≡ self }
     {
-        EndedCall { party: self }
-    }
-
-    // The record of a call by reference, of the party that has made it, and is alone on its seat.
-    pub(crate) fn give_back(self) -> EndedCall<F, T, A>
-        requires { Stands as_lent self × (is_spent self.seat.me.0 ≡ true) }
-        ensures { result.party ≡ self }
-    {
-        EndedCall { party: self }
+        let Party { seat } = self;
+        discard(seat);
     }
 }
 
-/// The record of a call that was made: its party, which nobody needs any more. By it a contract says what the call did. It has no bytes, and may be dropped.
+/// The record of a call that was made: its party, which nobody needs any more. By it a contract says what the call did; its clause `witnessed` says that an interleaving of the machine, of which all laws hold, ends in that. It has no bytes, and may be dropped.
 pub struct EndedCall<F, T, A> {
     pub(crate) party: Party<F, T, A>,
     ghost spent: { is_spent party.seat.me.0 ≡ true },
     ghost free: { party.seat.me.1 ≡ [] },
+    ghost witnessed: { IsWitnessed party },
 }
 
 impl<F, T, A> Drop for EndedCall<F, T, A> {
@@ -95,6 +90,14 @@ impl<R: Wait + Drop + Copy, F: Yields, Q: Drop, M: Drop, A: Wake, B: Allocator +
     {
         let RunnableSeat { share, party } = self;
         (share, party)
+    }
+
+    // The word as one load finds it, and the interleaving that ends in it.
+    pub(crate) fn witness(&mut self) -> Word
+        ensures witness { Witnesses self.old.party result }
+        ensures same { (self.new.share ≡ self.old.share) × (self.new.party ≡ self.old.party) }
+    {
+        self.share.witness(&mut self.party)
     }
 }
 
@@ -173,6 +176,7 @@ mod gain;
 mod hold;
 mod ledger;
 mod lent;
+mod lent_awaiter;
 mod poll;
 mod reference;
 mod register;
@@ -185,3 +189,4 @@ mod task;
 mod wake;
 pub(crate) mod waker;
 mod whole;
+mod witness;

@@ -73,6 +73,7 @@ changes Keeps = false
 changes (Sets flag) = true
 changes (Clears flag) = true
 
+-- whether a row changes the count of references
 abbrev pub recounts : Count → Bool
 recounts Stays = false
 recounts Adds = true
@@ -108,10 +109,12 @@ abbrev pub found_by : ℕ → Option Row → State → Bool
 found_by limit None w = true
 found_by limit (Some r) w = meets_all limit r.1 w
 
+-- the word that a row leaves
 abbrev pub written_by : Option Row → State → State
 written_by None w = w
 written_by (Some r) w = counted r.3 (edit_all r.2 w)
 
+-- whether a row has an edit of flags or count
 abbrev pub writes_by : Option Row → Bool
 writes_by None = false
 writes_by (Some r) = changes r.2.0 || changes r.2.1 || changes r.2.2 || changes r.2.3 || recounts r.3

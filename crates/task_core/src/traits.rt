@@ -1,5 +1,5 @@
 //! What an executor's own types promise to a task: futures, awaiters and schedule values, each with the facts that its methods state.
-ghost use Rattle.std.specs.Prelude.{◌≡◌, ⊤, Bool, Option};
+ghost use Rattle.std.specs.Prelude.{◌≡◌, ⊤, Bool, Result};
 ghost use Rattle.task_core.specs.Poll.{IfReady};
 ghost use Rattle.task_core.specs.declared.traits.Poll.{Poll};
 ghost use Rattle.task_core.specs.declared.traits.ScheduleInfo.{ScheduleInfo};
@@ -51,28 +51,31 @@ pub trait Future<W>: Yields {
 
 /// What can be woken: an awaiter, which a handle registers to learn that its task is over.
 pub trait Wake: Sized + Drop {
-    // What a wake that consumes the awaiter did.
-    ghost woken: { Self → Type 0 };
+    /// What a wake answers, and a clone that is refused: the record of the call, by which its clause says what was done; `()` where there is nothing to show.
+    type Record: Drop;
 
-    // What a wake that leaves the awaiter in place did.
-    ghost woken_by_ref: { Self → Type 0 };
+    // What a wake that consumes the awaiter did, by its record.
+    ghost woken: { Self → Self.Record → Type 0 };
 
-    // What a clone gave of an awaiter: `None` where it was refused.
-    ghost cloned: { Self → Option Self → Type 0 };
+    // What a wake that leaves the awaiter in place did, by its record.
+    ghost woken_by_ref: { Self → Self.Record → Type 0 };
+
+    // What a clone gave of an awaiter: the record of the call where it was refused.
+    ghost cloned: { Self → Result Self Self.Record → Type 0 };
 
     // What a comparison of two awaiters answered.
     ghost compared: { Self → Self → Bool → Type 0 };
 
-    /// Wakes what waits, and gives the awaiter up. `woken` holds of the call.
-    fn wake(self)
-        ensures { woken self };
+    /// Wakes what waits, and gives the awaiter up. `woken` holds of the call and its record.
+    fn wake(self) -> Self::Record
+        ensures { woken self result };
 
-    /// Wakes what waits, and keeps the awaiter. `woken_by_ref` holds of the call.
-    fn wake_by_ref(&self)
-        ensures { woken_by_ref self.now };
+    /// Wakes what waits, and keeps the awaiter. `woken_by_ref` holds of the call and its record.
+    fn wake_by_ref(&self) -> Self::Record
+        ensures { woken_by_ref self.now result };
 
-    /// A second awaiter that wakes the same, or `None` where there is none to be had, as for want of memory. `cloned` holds of the call.
-    fn try_clone(&self) -> Option<Self>
+    /// A second awaiter that wakes the same, or the record of the call where there is none to be had, as for want of memory. `cloned` holds of the call.
+    fn try_clone(&self) -> Result<Self, Self::Record>
         ensures { cloned self.now result };
 
     /// Whether a wake of `other` wakes the same as a wake of this one. `false` is always a right answer. `compared` holds of the call.

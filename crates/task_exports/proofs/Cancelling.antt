@@ -1,4 +1,5 @@
 -- What the steps of a cancel come to.
+use Rattle.task_cell.proofs.Vocabulary.{awaiter_first}
 use Rattle.std.proofs.Common.{◌≡◌, ℕ, Bool, true, false, List, [], ◌∷◌, ◌++◌, Option, Some, None, refl, sym, ap, ◌∙◌, subst}
 use Rattle.task_core.specs.Word.{State}
 use Rattle.task_core.specs.declared.acts.Act.TheVariants.{CancelBusy, CancelIdle, EndCall, EndNotify, HandOver, MissNotify, WakeAwaiter}
@@ -54,7 +55,7 @@ module _ {F T A : Type 0} where
     t.2,
     t.3,
     t.4,
-    did_then p q r (row CancelBusy x.0 ∷ []) (taking t.0) (notifies due (OfCancel n)) (Releaser t.1 (OfCancel n)) [] ((2, t.2) ∷ []) x.3 t.5,
+    did_then p q r (row CancelBusy x.0 ∷ []) (taking t.0) (notifies due (OfCancel n)) (Releaser t.1 (OfCancel n)) [] (awaiter_first t.2 []) x.3 t.5,
   )
 
   pub nobody_scheduled : (n : ℕ) (q r : Party F T A) (due : Bool) (a : ℕ) → CancelGoesOn due n q r a → schedules a ≡ false

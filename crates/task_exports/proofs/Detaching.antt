@@ -1,4 +1,5 @@
 -- What the steps of a detach come to.
+use Rattle.task_cell.proofs.Vocabulary.{TaskPlace}
 use Rattle.std.proofs.Common.{◌≡◌, ℕ, Bool, true, false, List, [], ◌∷◌, ◌++◌, Option, Some, None, refl, sym, ap, ◌∙◌, subst}
 use Rattle.task_core.specs.Word.{State}
 use Rattle.task_core.specs.declared.traits.Yields.{Ghosts}
@@ -16,7 +17,6 @@ use Rattle.task_exports.specs.declared.hand.Hand.{Hand}
 use Rattle.task_laws.specs.declared.positions.Position.{Position}
 use Rattle.task_steps.specs.Standing.{as_deliverer, as_runnable}
 use Rattle.task_steps.specs.declared.table.Deed.{Deed}
-use Rattle.task_steps.specs.declared.table.Slot.{Slot}
 use Rattle.task_steps.specs.declared.task.Detached.TheVariants.{Last, Orphaned, Shared, Unclaimed}
 
 module _ {F T A : Type 0} where
@@ -28,7 +28,7 @@ module _ {F T A : Type 0} where
 
 module _ {R F Q M A B O T : Type 0} {G : Ghosts F O} where
   -- the share is there still after a step, and its party is one of its cell
-  pub live_after : (share : Share R F Q M A B O G) (maybe : MaybeShare R F Q M A B O G) (b : Bool) (p q : Party F T A) (path : List Deed) (at : Position) (held : List (ℕ × Slot F T A)) → IsOf share p → limit_of p ≡ limit_in share → Leaves share maybe b → b ≡ true → DidWith path at held p q
+  pub live_after : (share : Share R F Q M A B O G) (maybe : MaybeShare R F Q M A B O G) (b : Bool) (p q : Party F T A) (path : List Deed) (at : Position) (held : List (ℕ × TaskPlace F T A)) → IsOf share p → limit_of p ≡ limit_in share → Leaves share maybe b → b ≡ true → DidWith path at held p q
       → (maybe.maybe.there ≡ true) × (q.seat.block ≡ maybe.maybe.id) × (limit_of q ≡ maybe.maybe.key)
   live_after share maybe b p q path at held cell limit l is g = (l.is_there ∙ is, g.cell ∙ (cell ∙ sym l.cell.0), limit_is p q path at held g ∙ (limit ∙ sym l.limit))
 
@@ -39,13 +39,13 @@ module _ {R F Q M A B O T : Type 0} {G : Ghosts F O} where
   live_rest share maybe false p q cell limit l e d = absurd (cc)
 
 -- the row of a detach, by what is in its place then
-pub shared_so : (x y : Hand) → DetachesRow x.party y.party Shared → IsGone y → Detaches x y 1
+pub shared_so : (x y : Hand) → DetachesRow x.party y.party Shared → IsGone y → Detaches x y None 1
 shared_so x y d gone = is_shared d.0 d.1 gone d.2
 
-pub last_so : (x y : Hand) → DetachesRow x.party y.party Last → Becomes x y → Detaches x y 9
+pub last_so : (x y : Hand) → DetachesRow x.party y.party Last → Becomes x y → Detaches x y None 9
 last_so x y d b = is_last d.0 d.1 d.2 b d.3
 
-pub unclaimed_so : (x y : Hand) → DetachesRow x.party y.party Unclaimed → Becomes x y → Detaches x y 5
+pub unclaimed_so : (x y : Hand) → DetachesRow x.party y.party Unclaimed → Becomes x y → Detaches x y None 5
 unclaimed_so x y d b = is_unclaimed d.0 d.1 d.2 d.3 b d.4
 
 pub rest_last : (x y : Hand) (b : Bool) → b ≡ true → GivesTaskUp x.party y.party b → Becomes x y → EndsDetach x y 9

@@ -1,8 +1,8 @@
 -- What the steps by which calls end come to for their party.
 use Rattle.task_cell.specs.declared.cell.Party.{Party}
 use Rattle.task_cell.proofs.Vocabulary.{◌≡◌, ℕ, Bool, true, false, List, [], ◌∷◌, ◌++◌, Option, Some, None, refl, sym, ap, ◌∙◌, subst, State, Answer, Ended, Position, At, CallEnding, Emptier, Fits}
-use Rattle.task_cell.proofs.Vocabulary.{GiveUpReference, GiveUpLastReference, EndCall, Slot, Deed, GivesUp, not_last, last, DidWith, Did, IsNew, StandsWith, Stands, row, act, as_ended, rest_of, position, after_giving_up, HandOver, handed_over, limit_of, Me, View}
-use Rattle.task_cell.proofs.Vocabulary.{NotifyingCall, AwaiterInHand, WakeAwaiter, EmptySlots, OfRun, Ran, is_some, after_waking, way_of, places_of}
+use Rattle.task_cell.proofs.Vocabulary.{GiveUpReference, GiveUpLastReference, EndCall, Deed, GivesUp, not_last, last, DidWith, Did, IsNew, StandsWith, Stands, row, act, as_ended, rest_of, position, after_giving_up, HandOver, handed_over, limit_of, Me, View}
+use Rattle.task_cell.proofs.Vocabulary.{NotifyingCall, AwaiterInHand, WakeAwaiter, EmptySlots, OfRun, Ran, is_some, after_waking, way_of, places_of, TaskPlace, awaiter_first}
 use Rattle.task_cell.proofs.Moved as moved
 use Rattle.task_cell.proofs.RunRest.{ended_call}
 
@@ -10,9 +10,9 @@ module _ {F T A : Type 0} where
   -- the reference was the last
   pub record Last (hand : Option ℕ) (answer : Answer) (p q : Party F T A) : Type 0 where
     pub word : State
-    pub place : Slot F T A
+    pub place : Option A
     pub fits : Fits GiveUpLastReference word
-    pub did : DidWith (row GiveUpLastReference word ∷ []) (Emptier hand answer) ((2, place) ∷ []) p q
+    pub did : DidWith (row GiveUpLastReference word ∷ []) (Emptier hand answer) (awaiter_first place []) p q
 
   pub was_last : (hand : Option ℕ) (answer : Answer) (p q : Party F T A) (b : Bool) → GivesUp hand answer p q b → b ≡ true → Last hand answer p q
   was_last hand answer p q true (last w y f g) e = record { word = w; place = y; fits = f; did = g }
@@ -38,11 +38,11 @@ module _ {F T A : Type 0} where
   handed_on p q at answer is s g = subst (λ z. Did (act HandOver ∷ []) z p q) (ap handed_over (moved.position_is p at [] s) ∙ is) g
 
   pub new_limit : (at : Position) (p q : Party F T A) → IsNew at p q → limit_of q ≡ limit_of p
-  new_limit at p q n = ap (λ (m : Me (Slot F T A) View). m.0.limit) n.is
+  new_limit at p q n = ap (λ (m : Me (TaskPlace F T A) View). m.0.limit) n.is
 
   -- the awaiter in hand was woken
   pub woken_at : (way : NotifyingCall) (i : ℕ) (p q : Party F T A) → Stands (AwaiterInHand i way) p → DidWith (act WakeAwaiter ∷ []) (after_waking (way_of (position p))) (places_of p) p q → Did (act WakeAwaiter ∷ []) (after_waking way) p q
-  woken_at way i p q s g = subst (λ (z : NotifyingCall × List (ℕ × Slot F T A)). DidWith (act WakeAwaiter ∷ []) (after_waking z.0) z.1 p q)
+  woken_at way i p q s g = subst (λ (z : NotifyingCall × List (ℕ × TaskPlace F T A)). DidWith (act WakeAwaiter ∷ []) (after_waking z.0) z.1 p q)
       (λ j. (ap way_of (moved.position_is p (AwaiterInHand i way) [] s) j, moved.held_is p (AwaiterInHand i way) [] s j)) g
 
   -- the last handle has emptied the places, and has an awaiter in hand, or none

@@ -1,7 +1,7 @@
 -- What the ends of calls come to, put together from their steps.
 use Rattle.task_cell.proofs.Vocabulary.{◌≡◌, ℕ, Bool, true, false, List, [], ◌∷◌, ◌++◌, Option, Some, None, refl, sym, ap, ◌∙◌, subst, is_some, State, Answer, Ran, Ended, Position, At, CallEnding, AwaiterInHand, Emptier, GivingUp}
-use Rattle.task_cell.proofs.Vocabulary.{GiveUpReference, GiveUpLastReference, EndCall, EndNotify, WakeAwaiter, BeginNotify, MissNotify, TakeAwaiter, Releaser, Notifier, NotifyingCall, OfRun, OfDrop, Slot, Deed, DidWith, Did, StandsWith, Stands, row, act, as_ended}
-use Rattle.task_cell.proofs.Vocabulary.{limit_of, position, places_of, way_of, after_taking, after_waking, notifies, after_giving_up}
+use Rattle.task_cell.proofs.Vocabulary.{GiveUpReference, GiveUpLastReference, EndCall, EndNotify, WakeAwaiter, BeginNotify, MissNotify, TakeAwaiter, Releaser, Notifier, NotifyingCall, OfRun, OfDrop, Deed, DidWith, Did, StandsWith, Stands, row, act, as_ended}
+use Rattle.task_cell.proofs.Vocabulary.{limit_of, position, places_of, way_of, after_taking, after_waking, notifies, after_giving_up, awaiter_first}
 use Rattle.task_cell.proofs.Moved as moved
 use Rattle.task_cell.proofs.RunRest.{at_way}
 use Rattle.task_cell.specs.Calls.{BeginsNotify, finds_another, takes_place, EndsNotify}
@@ -20,15 +20,15 @@ pub gives_on : (before more : List Deed) (at : Position) (held : _) (x m k : Han
 gives_on before more at held x m k _ g (others w f gone d) = let rest : List Deed = row GiveUpReference w ∷ act EndCall ∷ [] in
     others w f gone (subst (λ (l : List Deed). Did l as_ended x.party k.party) (joined before more rest) (moved.did_then x.party m.party k.party before (more ++ rest) at as_ended held [] g d))
 gives_on before more at held x m k _ g (none_left w answer y f live d) = let rest : List Deed = row GiveUpLastReference w ∷ [] in
-    none_left w answer y f live (subst (λ (l : List Deed). DidWith l (Emptier None answer) ((2, y) ∷ []) x.party k.party) (joined before more rest) (moved.did_then x.party m.party k.party before (more ++ rest) at (Emptier None answer) held ((2, y) ∷ []) g d))
+    none_left w answer y f live (subst (λ (l : List Deed). DidWith l (Emptier None answer) (awaiter_first y []) x.party k.party) (joined before more rest) (moved.did_then x.party m.party k.party before (more ++ rest) at (Emptier None answer) held (awaiter_first y []) g d))
 
 pub goes_on : (way : NotifyingCall) (due : Bool) (before : List Deed) (at : Position) (held : _) (x m k : Hand) (r : ℕ) → DidWith before at held x.party m.party → GoesOn way due [] m k r → GoesOn way due before x k r
-goes_on way due before at held x m k _ g (takes w hand y is f live waits d) = takes w hand y is f live waits (moved.did_then x.party m.party k.party before _ at _ held ((2, y) ∷ []) g d)
+goes_on way due before at held x m k _ g (takes w hand y is f live waits d) = takes w hand y is f live waits (moved.did_then x.party m.party k.party before _ at _ held (awaiter_first y []) g d)
 goes_on way due before at held x m k _ g (gives n r p b) = gives n r p (gives_on before n at held x m k r g b)
 
 -- the awaiter's place was asked for, or nothing was due
 pub begun_due : (way : NotifyingCall) (x k : Hand) (b : Bool) → Stands (Notifier way) x.party → BeginsNotify x.party k.party b → BeginsDue way true x k b
-begun_due way x k true s (takes_place w hand y f h g) = answers.takes_place w hand y refl f h (subst (λ (z : NotifyingCall × _). DidWith (row BeginNotify w ∷ act TakeAwaiter ∷ []) (Releaser hand z.0) ((2, y) ∷ z.1) x.party k.party)
+begun_due way x k true s (takes_place w hand y f h g) = answers.takes_place w hand y refl f h (subst (λ (z : NotifyingCall × _). DidWith (row BeginNotify w ∷ act TakeAwaiter ∷ []) (Releaser hand z.0) (awaiter_first y z.1) x.party k.party)
     (λ i. (ap way_of (moved.position_is x.party (Notifier way) [] s) i, moved.held_is x.party (Notifier way) [] s i)) g)
 begun_due way x k false s (finds_another w f g) = is_past (row MissNotify w ∷ []) (missed w f) (at_way way None (row MissNotify w ∷ []) x.party k.party s g)
 

@@ -1,4 +1,5 @@
 pub mod Walks
+pub mod Filled
 pub mod Along
 pub mod Live
 pub mod Given
@@ -13,3 +14,10 @@ pub mod Registering
 pub mod Detaching
 pub mod Polling
 pub mod Crossing
+pub mod Numbers
+pub mod Released
+pub mod CancelCall
+pub mod EndsCall
+pub mod PollCall
+pub mod DetachCall
+pub mod WakeCall

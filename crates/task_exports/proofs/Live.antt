@@ -1,6 +1,6 @@
 -- A share that goes on with its party: the cell and the limit stay the same.
 use Rattle.task_cell.specs.declared.cell.Party.{Party}
-use Rattle.task_cell.proofs.Vocabulary.{◌≡◌, ℕ, Bool, true, false, List, [], ◌∷◌, ◌∙◌, sym, ap, Position, Slot, Deed, limit_of, member, view, after, DidWith}
+use Rattle.task_cell.proofs.Vocabulary.{◌≡◌, ℕ, Bool, true, false, List, [], ◌∷◌, ◌∙◌, sym, ap, Position, Deed, limit_of, member, view, after, DidWith, TaskPlace}
 use Rattle.task_steps.specs.Standing.{as_lent}
 use Rattle.task_core.specs.declared.traits.Yields.{Ghosts}
 use Rattle.task_cell.specs.Belongs.{HasMade, IsSame, Leaves, cell_of, limit_in}
@@ -21,7 +21,7 @@ module _ {R F Q M A B O T : Type 0} {G : Ghosts F O} where
   of_limit before share p live taken = live.2 ∙ sym taken.1
 
   -- .. once the party has made steps
-  pub lives_on : (before later : MaybeShare R F Q M A B O G) (share : Share R F Q M A B O G) (p q : Party F T A) (path : List Deed) (at : Position) (held : List (ℕ × Slot F T A))
+  pub lives_on : (before later : MaybeShare R F Q M A B O G) (share : Share R F Q M A B O G) (p q : Party F T A) (path : List Deed) (at : Position) (held : List (ℕ × TaskPlace F T A))
       → Lives before p → Taken before share → Leaves share later true → DidWith path at held p q → Lives later q
   lives_on before later share p q path at held live taken leaves g = (
     leaves.is_there,
@@ -34,7 +34,7 @@ module _ {R F Q M A B O T : Type 0} {G : Ghosts F O} where
   lives_still before later share p live taken leaves = (leaves.is_there, live.1 ∙ sym (leaves.cell.0 ∙ taken.0), live.2 ∙ sym (leaves.limit ∙ taken.1))
 
   -- .. where the step has left the share
-  pub lives_left : (before later : MaybeShare R F Q M A B O G) (share : Share R F Q M A B O G) (p q : Party F T A) (path : List Deed) (at : Position) (held : List (ℕ × Slot F T A)) (there : Bool)
+  pub lives_left : (before later : MaybeShare R F Q M A B O G) (share : Share R F Q M A B O G) (p q : Party F T A) (path : List Deed) (at : Position) (held : List (ℕ × TaskPlace F T A)) (there : Bool)
       → Lives before p → Taken before share → Leaves share later there → there ≡ true → DidWith path at held p q → Lives later q
   lives_left before later share p q path at held there live taken leaves is g = (
     leaves.is_there ∙ is,
@@ -58,7 +58,7 @@ module _ {R F Q M A B O T : Type 0} {G : Ghosts F O} where
   records before gone share path p taken leaves made = (leaves.is_there, made.0 ∙ taken.0, made.1 ∙ ap (λ l. (view l (member as_lent (after path []) ∷ []), [])) taken.1)
 
   -- .. by a share of the same cell, which a step that was not made has handed back
-  pub lives_kept : (before later : MaybeShare R F Q M A B O G) (share kept : Share R F Q M A B O G) (p q : Party F T A) (path : List Deed) (at : Position) (held : List (ℕ × Slot F T A))
+  pub lives_kept : (before later : MaybeShare R F Q M A B O G) (share kept : Share R F Q M A B O G) (p q : Party F T A) (path : List Deed) (at : Position) (held : List (ℕ × TaskPlace F T A))
       → Lives before p → Taken before share → IsSame share kept → Leaves kept later true → DidWith path at held p q → Lives later q
   lives_kept before later share kept p q path at held live taken same leaves g =
       lives_on before later kept p q path at held live (same.0 ∙ taken.0, same.2 ∙ taken.1, same.1 ∙ taken.2) leaves g

@@ -1,4 +1,5 @@
 -- What the looks of a poll come to, and what follows them.
+use Rattle.task_cell.proofs.Vocabulary.{work_first, awaiter_first}
 use Rattle.std.proofs.Common.{◌≡◌, ℕ, ◌+◌, Bool, true, false, List, [], ◌∷◌, ◌++◌, Option, Some, None, refl, sym, ap, ◌∙◌, subst}
 use Rattle.task_core.specs.Word.{State}
 use Rattle.task_core.specs.declared.acts.Act.TheVariants.{BeginNotify, EndCall, Look, MissNotify, TakeAwaiter}
@@ -19,24 +20,23 @@ use Rattle.task_steps.specs.Deeds.{act, row}
 use Rattle.task_steps.specs.PollScripts.{has_ended, has_output}
 use Rattle.task_steps.specs.Rule.{IsOutput}
 use Rattle.task_steps.specs.Standing.{as_task, poll_number}
-use Rattle.task_steps.specs.Steps.{output_first}
 use Rattle.task_steps.specs.declared.table.Deed.{Deed}
 use Rattle.task_steps.specs.declared.table.Slot.{Slot}
 
 module _ {F T A : Type 0} where
   -- an output was claimed
-  pub due_claim : (due : Bool) (i : ℕ) (z : Slot F T A) (p : Party F T A) → due ≡ true → StandsWith (notifies due (OfClaim i)) (output_first z []) p → StandsWith (Notifier (OfClaim i)) (output_first z []) p
-  due_claim due i z p e s = subst (λ (b : Bool). StandsWith (notifies b (OfClaim i)) (output_first z []) p) e s
+  pub due_claim : (due : Bool) (i : ℕ) (z : Slot F T) (p : Party F T A) → due ≡ true → StandsWith (notifies due (OfClaim i)) (work_first z []) p → StandsWith (Notifier (OfClaim i)) (work_first z []) p
+  due_claim due i z p e s = subst (λ (b : Bool). StandsWith (notifies b (OfClaim i)) (work_first z []) p) e s
 
-  pub claim_alone : (due : Bool) (i : ℕ) (z : Slot F T A) (p : Party F T A) → due ≡ false → StandsWith (notifies due (OfClaim i)) (output_first z []) p → ClaimGoesOn due i z p p 16
+  pub claim_alone : (due : Bool) (i : ℕ) (z : Slot F T) (p : Party F T A) → due ≡ false → StandsWith (notifies due (OfClaim i)) (work_first z []) p → ClaimGoesOn due i z p p 16
   claim_alone due i z p e s = subst (λ (b : Bool). ClaimGoesOn b i z p p 16) (sym e)
-      (has_it_now [] none_due (at_rest (TookOutput i) (output_first z []) p (subst (λ (b : Bool). StandsWith (notifies b (OfClaim i)) (output_first z []) p) e s)))
+      (has_it_now [] none_due (at_rest (TookOutput i) (work_first z []) p (subst (λ (b : Bool). StandsWith (notifies b (OfClaim i)) (work_first z []) p) e s)))
 
-  pub claim_takes_it : (due : Bool) (i : ℕ) (z : Slot F T A) (p q : Party F T A) (b : Bool) → due ≡ true → StandsWith (notifies due (OfClaim i)) (output_first z []) p → BeginsNotify p q b → b ≡ true → ClaimGoesOn due i z p q 24
-  claim_takes_it due i z p q b e s n f = let held = output_first z [] in claim_takes e (takes_after (OfClaim i) held [] p p q b (at_rest (Notifier (OfClaim i)) held p (due_claim due i z p e s)) n f)
+  pub claim_takes_it : (due : Bool) (i : ℕ) (z : Slot F T) (p q : Party F T A) (b : Bool) → due ≡ true → StandsWith (notifies due (OfClaim i)) (work_first z []) p → BeginsNotify p q b → b ≡ true → ClaimGoesOn due i z p q 24
+  claim_takes_it due i z p q b e s n f = let held = work_first z [] in claim_takes e (takes_after (OfClaim i) held [] p p q b (at_rest (Notifier (OfClaim i)) held p (due_claim due i z p e s)) n f)
 
-  pub claim_passes : (due : Bool) (i : ℕ) (z : Slot F T A) (p q : Party F T A) (b : Bool) → due ≡ true → StandsWith (notifies due (OfClaim i)) (output_first z []) p → BeginsNotify p q b → b ≡ false → ClaimGoesOn due i z p q 16
-  claim_passes due i z p q b e s n f = let held = output_first z [] in let x = passes_after (OfClaim i) held [] p p q b (at_rest (Notifier (OfClaim i)) held p (due_claim due i z p e s)) n f in
+  pub claim_passes : (due : Bool) (i : ℕ) (z : Slot F T) (p q : Party F T A) (b : Bool) → due ≡ true → StandsWith (notifies due (OfClaim i)) (work_first z []) p → BeginsNotify p q b → b ≡ false → ClaimGoesOn due i z p q 16
+  claim_passes due i z p q b e s n f = let held = work_first z [] in let x = passes_after (OfClaim i) held [] p p q b (at_rest (Notifier (OfClaim i)) held p (due_claim due i z p e s)) n f in
       has_it_now (row MissNotify x.0 ∷ []) (subst (λ (b : Bool). PassesBy b (row MissNotify x.0 ∷ [])) (sym e) (finds_other x.0 x.1)) x.2
 
   -- the task was found ended
@@ -51,24 +51,24 @@ module _ {F T A : Type 0} where
       ends_now x.0 x.1 (then_goes p q r (row MissNotify x.0 ∷ []) (act EndCall ∷ []) (Answering i IsClosed) [] [] poll_end x.2 e)
 
   -- a look that has claimed the output, and what followed
-  pub claimed_stands : (w : State) (path : List Deed) (p q : Party F T A) (due : Bool) → ClaimsOutput w path p q → due ≡ w.awaiter → (i : ℕ) × (z : Slot F T A) × StandsWith (notifies due (OfClaim i)) (output_first z []) q
+  pub claimed_stands : (w : State) (path : List Deed) (p q : Party F T A) (due : Bool) → ClaimsOutput w path p q → due ≡ w.awaiter → (i : ℕ) × (z : Slot F T) × StandsWith (notifies due (OfClaim i)) (work_first z []) q
   claimed_stands w path p q due c e = let i = poll_number (position p) in
-      (i, c.output, subst (λ (b : Bool). StandsWith (notifies b (OfClaim i)) (output_first c.output []) q) (sym e) (stands p q path (notifies w.awaiter (OfClaim i)) (output_first c.output []) c.did))
+      (i, c.output, subst (λ (b : Bool). StandsWith (notifies b (OfClaim i)) (work_first c.output []) q) (sym e) (stands p q path (notifies w.awaiter (OfClaim i)) (work_first c.output []) c.did))
 
-  claimed_goes : (claims : State → List Deed) (i : ℕ) (w : State) (z : Slot F T A) (p q r : Party F T A) (a : ℕ) → has_output w ≡ true → IsOutput z → DidWith (claims w) (notifies w.awaiter (OfClaim i)) (output_first z []) p q → ClaimGoesOn w.awaiter i z q r a → Answers i claims p r a
-  claimed_goes claims i w z p q r _ there o g (has_it_now notice passes d) = has_it w z notice there o passes (did_then p q r (claims w) notice (notifies w.awaiter (OfClaim i)) (TookOutput i) (output_first z []) (output_first z []) g d)
+  claimed_goes : (claims : State → List Deed) (i : ℕ) (w : State) (z : Slot F T) (p q r : Party F T A) (a : ℕ) → has_output w ≡ true → IsOutput z → DidWith (claims w) (notifies w.awaiter (OfClaim i)) (work_first z []) p q → ClaimGoesOn w.awaiter i z q r a → Answers i claims p r a
+  claimed_goes claims i w z p q r _ there o g (has_it_now notice passes d) = has_it w z notice there o passes (did_then p q r (claims w) notice (notifies w.awaiter (OfClaim i)) (TookOutput i) (work_first z []) (work_first z []) g d)
   claimed_goes claims i w z p q r _ there o g (claim_takes due t) = has_it_and_takes w z there o due (
     t.0,
     t.1,
     t.2,
     t.3,
     t.4,
-    did_then p q r (claims w) (row BeginNotify t.0 ∷ act TakeAwaiter ∷ []) (notifies w.awaiter (OfClaim i)) (Releaser t.1 (OfClaim i)) (output_first z []) ((2, t.2) ∷ output_first z []) g t.5,
+    did_then p q r (claims w) (row BeginNotify t.0 ∷ act TakeAwaiter ∷ []) (notifies w.awaiter (OfClaim i)) (Releaser t.1 (OfClaim i)) (work_first z []) (awaiter_first t.2 (work_first z [])) g t.5,
   )
 
   pub answers_claimed : (claims : State → List Deed) (w : State) (p q r : Party F T A) (due : Bool) (a : ℕ) → ClaimsOutput w (claims w) p q → due ≡ w.awaiter
-      → ((i : ℕ) (z : Slot F T A) → StandsWith (notifies due (OfClaim i)) (output_first z []) q → ClaimGoesOn due i z q r a) → Answers (poll_number (position p)) claims p r a
-  answers_claimed claims w p q r due a c e f = let i = poll_number (position p) in let held = output_first c.output [] in
+      → ((i : ℕ) (z : Slot F T) → StandsWith (notifies due (OfClaim i)) (work_first z []) q → ClaimGoesOn due i z q r a) → Answers (poll_number (position p)) claims p r a
+  answers_claimed claims w p q r due a c e f = let i = poll_number (position p) in let held = work_first c.output [] in
       let s = subst (λ (b : Bool). StandsWith (notifies b (OfClaim i)) held q) (sym e) (stands p q (claims w) (notifies w.awaiter (OfClaim i)) held c.did) in
       claimed_goes claims i w c.output p q r a c.there c.is_output c.did (subst (λ (b : Bool). ClaimGoesOn b i c.output q r a) e (f i c.output s))
 
@@ -81,7 +81,7 @@ module _ {F T A : Type 0} where
     t.2,
     t.3,
     t.4,
-    did_then p q r (row Look w ∷ []) (row BeginNotify t.0 ∷ act TakeAwaiter ∷ []) (Notifier (OfPoll i)) (Releaser t.1 (OfPoll i)) [] ((2, t.2) ∷ []) g t.5,
+    did_then p q r (row Look w ∷ []) (row BeginNotify t.0 ∷ act TakeAwaiter ∷ []) (Notifier (OfPoll i)) (Releaser t.1 (OfPoll i)) [] (awaiter_first t.2 []) g t.5,
   )
 
   pub answers_ended : (claims : State → List Deed) (i : ℕ) (w : State) (p q r : Party F T A) (a : ℕ) → has_ended w ≡ true → Did (row Look w ∷ []) (Notifier (OfPoll i)) p q → ((j : ℕ) → Stands (Notifier (OfPoll j)) q → EndGoesOn j q r a) → Answers i claims p r a

@@ -1,4 +1,5 @@
 -- The two looks of a poll, each with what followed it.
+use Rattle.task_cell.proofs.Vocabulary.{work_first}
 use Rattle.std.proofs.Common.{◌≡◌, ℕ, ◌+◌, Bool, true, false, List, [], ◌∷◌, refl, sym, ap, ◌∙◌, subst}
 use Rattle.std.specs.Prelude.{Err, Ok}
 use Rattle.task_core.specs.Word.{State}
@@ -18,7 +19,6 @@ use Rattle.task_laws.specs.declared.positions.Position.TheVariants.{Looking, Not
 use Rattle.task_steps.specs.Deeds.{act, row}
 use Rattle.task_steps.specs.PollScripts.{has_ended, has_to_wait}
 use Rattle.task_steps.specs.Standing.{as_task, poll_number}
-use Rattle.task_steps.specs.Steps.{output_first}
 use Rattle.task_steps.specs.declared.table.Deed.{Deed}
 use Rattle.task_steps.specs.declared.table.Slot.{Slot}
 
@@ -37,11 +37,11 @@ module _ {F T A : Type 0} where
   goes i p s = ap poll_number (position_is p (Looking i) [] s)
 
   -- the first look
-  pub look_stands : (w : State) (p q : Party F T A) (due : Bool) → Looks p q (Ok w) → due ≡ w.awaiter → (i : ℕ) × (z : Slot F T A) × StandsWith (notifies due (OfClaim i)) (output_first z []) q
+  pub look_stands : (w : State) (p q : Party F T A) (due : Bool) → Looks p q (Ok w) → due ≡ w.awaiter → (i : ℕ) × (z : Slot F T) × StandsWith (notifies due (OfClaim i)) (work_first z []) q
   look_stands w p q due l e = claimed_stands w (claims w) p q due (seen p q (Ok w) l) e
 
   pub look_claims : (n : ℕ) (w : State) (p q r : Party F T A) (due : Bool) (a : ℕ) → Stands (as_task n) p → Looks p q (Ok w) → due ≡ w.awaiter
-      → ((i : ℕ) (z : Slot F T A) → StandsWith (notifies due (OfClaim i)) (output_first z []) q → ClaimGoesOn due i z q r a) → Polls (n + 1) p r a
+      → ((i : ℕ) (z : Slot F T) → StandsWith (notifies due (OfClaim i)) (work_first z []) q → ClaimGoesOn due i z q r a) → Polls (n + 1) p r a
   look_claims n w p q r due a s l e f = answers a (subst (λ k. Answers k claims p r a) (begins n p s) (answers_claimed claims w p q r due a (seen p q (Ok w) l) e f))
 
   ended_at : (w : State) (p q : Party F T A) → Looks p q (Err w) → has_ended w ≡ true → Did (row Look w ∷ []) (Notifier (OfPoll (poll_number (position p)))) p q
@@ -57,11 +57,11 @@ module _ {F T A : Type 0} where
   look_registers n w p q s l e = let x = seen p q (Err w) l in registers w x.0 e (subst (λ k. Did (row Look w ∷ []) (Registrar k) p q) (begins n p s) (saw w p q false x e))
 
   -- the look of a poll that has registered
-  pub again_stands : (w : State) (p q : Party F T A) (due : Bool) → LooksAgain p q (Ok w) → due ≡ w.awaiter → (i : ℕ) × (z : Slot F T A) × StandsWith (notifies due (OfClaim i)) (output_first z []) q
+  pub again_stands : (w : State) (p q : Party F T A) (due : Bool) → LooksAgain p q (Ok w) → due ≡ w.awaiter → (i : ℕ) × (z : Slot F T) × StandsWith (notifies due (OfClaim i)) (work_first z []) q
   again_stands w p q due l e = claimed_stands w (claims_again w) p q due (seen_again p q (Ok w) l) e
 
   pub again_claims : (i : ℕ) (w : State) (p q r : Party F T A) (due : Bool) (a : ℕ) → Stands (Looking i) p → LooksAgain p q (Ok w) → due ≡ w.awaiter
-      → ((i : ℕ) (z : Slot F T A) → StandsWith (notifies due (OfClaim i)) (output_first z []) q → ClaimGoesOn due i z q r a) → LooksOn i p r a
+      → ((i : ℕ) (z : Slot F T) → StandsWith (notifies due (OfClaim i)) (work_first z []) q → ClaimGoesOn due i z q r a) → LooksOn i p r a
   again_claims i w p q r due a s l e f = answers_now a (subst (λ k. Answers k claims_again p r a) (goes i p s) (answers_claimed claims_again w p q r due a (seen_again p q (Ok w) l) e f))
 
   pub again_waits : (i : ℕ) (w : State) (p q : Party F T A) → Stands (Looking i) p → LooksAgain p q (Err w) → has_to_wait w ≡ true → LooksOn i p q 18

@@ -1,4 +1,5 @@
 -- What the steps come to by which a poll that is ready deals with the stored awaiter.
+use Rattle.task_cell.proofs.Vocabulary.{work_first}
 use Rattle.std.proofs.Common.{◌≡◌, ℕ, Bool, true, false, not, List, [], ◌∷◌, ◌++◌, Option, Some, None, refl, sym, ◌∙◌, subst}
 use Rattle.task_core.specs.Word.{State, is_open}
 use Rattle.task_cell.proofs.Moved.{position_is}
@@ -14,7 +15,6 @@ use Rattle.task_laws.specs.declared.positions.PollAnswer.TheVariants.{IsClosed}
 use Rattle.task_laws.specs.declared.positions.Position.TheVariants.{Answering, AwaiterInHand, TookOutput}
 use Rattle.task_steps.specs.Deeds.{act, row}
 use Rattle.task_steps.specs.Standing.{as_task, poll_number, way_of}
-use Rattle.task_steps.specs.Steps.{output_first}
 use Rattle.task_steps.specs.declared.places.Held.{Held}
 use Rattle.task_steps.specs.declared.table.Deed.{Deed}
 use Rattle.task_steps.specs.declared.table.Slot.{Slot}
@@ -46,14 +46,14 @@ module _ {F T A : Type 0} where
   poll_ends_dealt i k path p q r s g e = poll_ends_after i IsClosed path p q r (poll_dealt i k path p q s g) e
 
   -- a claimed output
-  pub claim_has_hand : (i : ℕ) (z : Slot F T A) (hand : Option ℕ) (p q : Party F T A) (found : Option (Held A)) (a : Held A) → EndsNotify hand (OfClaim i) (output_first z []) p q found → found ≡ Some a → Releases (OfClaim i) (output_first z []) [] (TookOutput i) 16 p q 14
-  claim_has_hand i z hand p q found a x e = let y = taken_hand (OfClaim i) (output_first z []) hand p q found a x e (λ j. refl) in in_hand y.0 y.1 y.2
+  pub claim_has_hand : (i : ℕ) (z : Slot F T) (hand : Option ℕ) (p q : Party F T A) (found : Option (Held A)) (a : Held A) → EndsNotify hand (OfClaim i) (work_first z []) p q found → found ≡ Some a → Releases (OfClaim i) (work_first z []) [] (TookOutput i) 16 p q 14
+  claim_has_hand i z hand p q found a x e = let y = taken_hand (OfClaim i) (work_first z []) hand p q found a x e (λ j. refl) in in_hand y.0 y.1 y.2
 
-  pub claim_has_none : (i : ℕ) (z : Slot F T A) (hand : Option ℕ) (p q : Party F T A) (found : Option (Held A)) → EndsNotify hand (OfClaim i) (output_first z []) p q found → found ≡ None → Releases (OfClaim i) (output_first z []) [] (TookOutput i) 16 p q 16
-  claim_has_none i z hand p q found x e = let y = taken_none (OfClaim i) (output_first z []) hand p q found x e in none_there y.0 y.1
+  pub claim_has_none : (i : ℕ) (z : Slot F T) (hand : Option ℕ) (p q : Party F T A) (found : Option (Held A)) → EndsNotify hand (OfClaim i) (work_first z []) p q found → found ≡ None → Releases (OfClaim i) (work_first z []) [] (TookOutput i) 16 p q 16
+  claim_has_none i z hand p q found x e = let y = taken_none (OfClaim i) (work_first z []) hand p q found x e in none_there y.0 y.1
 
-  pub claim_dealt : (i k : ℕ) (z : Slot F T A) (path : List Deed) (p q : Party F T A) → StandsWith (AwaiterInHand k (OfClaim i)) (output_first z []) p → DidWith path (after_waking (way_of (position p))) (places_of p) p q → DidWith path (TookOutput i) (output_first z []) p q
-  claim_dealt i k z path p q s g = dealt (OfClaim i) k (output_first z []) path p q s g
+  pub claim_dealt : (i k : ℕ) (z : Slot F T) (path : List Deed) (p q : Party F T A) → StandsWith (AwaiterInHand k (OfClaim i)) (work_first z []) p → DidWith path (after_waking (way_of (position p))) (places_of p) p q → DidWith path (TookOutput i) (work_first z []) p q
+  claim_dealt i k z path p q s g = dealt (OfClaim i) k (work_first z []) path p q s g
 
   -- whether the task is over
   pub finished : (n : ℕ) (p q : Party F T A) (b : Bool) → Stands (as_task n) p → (w : State) × Did (row LookFinished w ∷ act EndCall ∷ []) (position p) p q × (b ≡ not (is_open w)) → b ≡ true → Looks n p q 1

@@ -1,4 +1,5 @@
 -- What the steps come to by which a poll registers its awaiter.
+use Rattle.task_cell.proofs.Vocabulary.{TaskPlace, awaiter_first}
 use Rattle.std.proofs.Common.{◌≡◌, ℕ, Bool, true, false, List, [], ◌∷◌, ◌++◌, Option, Some, None, is_some, refl, sym, ap, ◌∙◌, subst}
 use Rattle.task_core.specs.Word.{State}
 use Rattle.task_core.specs.declared.acts.Act.TheVariants.{CloneAwaiter, DropAwaiter, BeginRegister, EndRegister, FindNotify, StoreAwaiter, TakeAwaiter}
@@ -17,8 +18,6 @@ use Rattle.task_steps.specs.Rule.{Waits}
 use Rattle.task_steps.specs.Standing.{poll_number}
 use Rattle.task_steps.specs.declared.places.Held.{Held}
 use Rattle.task_steps.specs.declared.table.Deed.{Deed}
-use Rattle.task_steps.specs.declared.table.Slot.{Slot}
-use Rattle.task_steps.specs.declared.table.Slot.TheVariants.{Awaiter}
 
 -- the clone was put in over an older awaiter, or where nothing stood
 stored_over : {A : Type 0} (hand : Option ℕ) (found : Option (Held A)) (a : Held A) → is_some found ≡ is_some hand → found ≡ Some a → IsStored hand 21
@@ -38,51 +37,51 @@ module _ {F T A : Type 0} where
 
   -- the place was taken for it
   abbrev pub Begun : ℕ → Party F T A → Type 0
-  Begun i q = (hand : Option ℕ) × (y : Slot F T A) × StandsWith (after_storing i hand) ((2, y) ∷ []) q × Waits hand y
+  Begun i q = (hand : Option ℕ) × (y : Option A) × StandsWith (after_storing i hand) (awaiter_first y []) q × Waits hand y
 
   begun_at : (i : ℕ) (p q : Party F T A) → Stands (Registrar i) p → BeginsRegister p q true
-      → (w : State) × (hand : Option ℕ) × (y : Slot F T A) × (w.notifying ≡ false) × Waits hand y × DidWith (act CloneAwaiter ∷ row BeginRegister w ∷ act StoreAwaiter ∷ []) (after_storing i hand) ((2, y) ∷ []) p q
-  begun_at i p q s (begins w hand y e h g) = (w, hand, y, e, h, subst (λ (at : Position). DidWith (act CloneAwaiter ∷ row BeginRegister w ∷ act StoreAwaiter ∷ []) (after_storing (poll_number at) hand) ((2, y) ∷ []) p q) (position_is p (Registrar i) [] s) g)
+      → (w : State) × (hand : Option ℕ) × (y : Option A) × (w.notifying ≡ false) × Waits hand y × DidWith (act CloneAwaiter ∷ row BeginRegister w ∷ act StoreAwaiter ∷ []) (after_storing i hand) (awaiter_first y []) p q
+  begun_at i p q s (begins w hand y e h g) = (w, hand, y, e, h, subst (λ (at : Position). DidWith (act CloneAwaiter ∷ row BeginRegister w ∷ act StoreAwaiter ∷ []) (after_storing (poll_number at) hand) (awaiter_first y []) p q) (position_is p (Registrar i) [] s) g)
 
   pub has_begun : (i : ℕ) (p q : Party F T A) → Stands (Registrar i) p → BeginsRegister p q true → (j : ℕ) × Begun j q
-  has_begun i p q s b = let x = begun_at i p q s b in (i, (x.1, x.2, stands p q (act CloneAwaiter ∷ row BeginRegister x.0 ∷ act StoreAwaiter ∷ []) (after_storing i x.1) ((2, x.2) ∷ []) x.5, x.4))
+  has_begun i p q s b = let x = begun_at i p q s b in (i, (x.1, x.2, stands p q (act CloneAwaiter ∷ row BeginRegister x.0 ∷ act StoreAwaiter ∷ []) (after_storing i x.1) (awaiter_first x.2 []) x.5, x.4))
 
   pub stored : (i : ℕ) (p q r : Party F T A) (a : ℕ) → Stands (Registrar i) p → BeginsRegister p q true
-      → ((j : ℕ) (hand : Option ℕ) (y : Slot F T A) → StandsWith (after_storing j hand) ((2, y) ∷ []) q → Waits hand y → PutsIn j hand q r a) → Stores i p r a
+      → ((j : ℕ) (hand : Option ℕ) (y : Option A) → StandsWith (after_storing j hand) (awaiter_first y []) q → Waits hand y → PutsIn j hand q r a) → Stores i p r a
   stored i p q r a s b f = let x = begun_at i p q s b in let path : List Deed = act CloneAwaiter ∷ row BeginRegister x.0 ∷ act StoreAwaiter ∷ [] in let at = after_storing i x.1 in
-      let y = f i x.1 x.2 (stands p q path at ((2, x.2) ∷ []) x.5) x.4 in
-      stores x.0 x.1 y.1 a x.3 y.0 (did_then p q r path [] at at ((2, x.2) ∷ []) ((2, Awaiter y.1) ∷ []) x.5 y.2)
+      let y = f i x.1 x.2 (stands p q path at (awaiter_first x.2 []) x.5) x.4 in
+      stores x.0 x.1 y.1 a x.3 y.0 (did_then p q r path [] at at (awaiter_first x.2 []) (awaiter_first (Some y.1) []) x.5 y.2)
 
   pub found_notifier : (i : ℕ) (p q : Party F T A) → Stands (Registrar i) p → BeginsRegister p q false → Stores i p q 22
   found_notifier i p q s (finds_one w e g) = finds_notifier w e (subst (λ (at : Position). Did (act CloneAwaiter ∷ row FindNotify w ∷ []) (UnusedClone (poll_number at)) p q) (position_is p (Registrar i) [] s) g)
 
   -- the older awaiter was dropped, where one stood
-  pub over_old : (i : ℕ) (stood : Bool) (p : Party F T A) → HasStored i stood p → stood ≡ true → (j : ℕ) × (old : ℕ) × (clone : A) × StandsWith (OldAwaiterInHand j old) ((2, Awaiter clone) ∷ []) p
+  pub over_old : (i : ℕ) (stood : Bool) (p : Party F T A) → HasStored i stood p → stood ≡ true → (j : ℕ) × (old : ℕ) × (clone : A) × StandsWith (OldAwaiterInHand j old) (awaiter_first (Some clone) []) p
   over_old i stood p (Some old, clone, e, s) f = (i, old, clone, s)
   over_old i stood p (None, clone, e, s) f = never (e ∙ f)
 
   pub settled : (i : ℕ) (stood : Bool) (p q : Party F T A) → HasStored i stood p → stood ≡ true → DidWith (act DropAwaiter ∷ []) (Registered (poll_number (position p))) (places_of p) p q → Settles i stood p q
-  settled i stood p q (Some old, clone, e, s) f g = let at = OldAwaiterInHand i old in let held : List (ℕ × Slot F T A) = (2, Awaiter clone) ∷ [] in (
+  settled i stood p q (Some old, clone, e, s) f g = let at = OldAwaiterInHand i old in let held : List (ℕ × TaskPlace F T A) = awaiter_first (Some clone) [] in (
     clone,
     subst (λ (b : Bool). DidWith (dropped_if b) (Registered i) held p q) (sym f)
-        (subst (λ (z : Position × List (ℕ × Slot F T A)). DidWith (act DropAwaiter ∷ []) (Registered (poll_number z.0)) z.1 p q) (λ j. (position_is p at held s j, held_is p at held s j)) g),
+        (subst (λ (z : Position × List (ℕ × TaskPlace F T A)). DidWith (act DropAwaiter ∷ []) (Registered (poll_number z.0)) z.1 p q) (λ j. (position_is p at held s j, held_is p at held s j)) g),
   )
   settled i stood p q (None, clone, e, s) f g = never (e ∙ f)
 
   pub nothing_stood : (i : ℕ) (stood : Bool) (p : Party F T A) → HasStored i stood p → stood ≡ false → Settles i stood p p
-  nothing_stood i stood p (None, clone, e, s) f = (clone, subst (λ (b : Bool). DidWith (dropped_if b) (Registered i) ((2, Awaiter clone) ∷ []) p p) (sym f) (record { cell = refl; is = s }))
+  nothing_stood i stood p (None, clone, e, s) f = (clone, subst (λ (b : Bool). DidWith (dropped_if b) (Registered i) (awaiter_first (Some clone) []) p p) (sym f) (record { cell = refl; is = s }))
   nothing_stood i stood p (Some old, clone, e, s) f = never (sym f ∙ sym e)
 
   pub has_settled : (i : ℕ) (stood : Bool) (p q : Party F T A) → Settles i stood p q → HasStored i false q
-  has_settled i stood p q x = (None, x.0, refl, stands p q (dropped_if stood) (Registered i) ((2, Awaiter x.0) ∷ []) x.1)
+  has_settled i stood p q x = (None, x.0, refl, stands p q (dropped_if stood) (Registered i) (awaiter_first (Some x.0) []) x.1)
 
   -- the place is given back
-  pub is_registered : (i : ℕ) (p : Party F T A) → HasStored i false p → (j : ℕ) × (clone : A) × StandsWith (Registered j) ((2, Awaiter clone) ∷ []) p
+  pub is_registered : (i : ℕ) (p : Party F T A) → HasStored i false p → (j : ℕ) × (clone : A) × StandsWith (Registered j) (awaiter_first (Some clone) []) p
   is_registered i p (None, clone, e, s) = (i, clone, s)
   is_registered i p (Some old, clone, e, s) = never (sym e)
 
-  ended_at : (i : ℕ) (clone : A) (p q : Party F T A) → StandsWith (Registered i) ((2, Awaiter clone) ∷ []) p → EndsRegister p q true → (v : State) × (v.notifying ≡ false) × Did (row EndRegister v ∷ []) (Looking i) p q
-  ended_at i clone p q s (ends v e g) = (v, e, subst (λ (at : Position). Did (row EndRegister v ∷ []) (Looking (poll_number at)) p q) (position_is p (Registered i) ((2, Awaiter clone) ∷ []) s) g)
+  ended_at : (i : ℕ) (clone : A) (p q : Party F T A) → StandsWith (Registered i) (awaiter_first (Some clone) []) p → EndsRegister p q true → (v : State) × (v.notifying ≡ false) × Did (row EndRegister v ∷ []) (Looking i) p q
+  ended_at i clone p q s (ends v e g) = (v, e, subst (λ (at : Position). Did (row EndRegister v ∷ []) (Looking (poll_number at)) p q) (position_is p (Registered i) (awaiter_first (Some clone) []) s) g)
 
   pub is_looking : (i : ℕ) (p q : Party F T A) → HasStored i false p → EndsRegister p q true → (j : ℕ) × Stands (Looking j) q
   is_looking i p q h e = let s = is_registered i p h in let x = ended_at s.0 s.1 p q s.2 e in (s.0, stands p q (row EndRegister x.0 ∷ []) (Looking s.0) [] x.2)
@@ -92,11 +91,11 @@ module _ {F T A : Type 0} where
   looks_now i p q r a (Some old, clone, e, s) x f = never (sym e)
 
   pub takes_back : (i : ℕ) (p q : Party F T A) → HasStored i false p → EndsRegister p q false → EndsStore i false p q 23
-  takes_back i p q (None, clone, e, s) (finds_notified g) = let held : List (ℕ × Slot F T A) = (2, Awaiter clone) ∷ [] in has_to_take_back clone
-      (subst (λ (z : Position × List (ℕ × Slot F T A)). DidWith (act TakeAwaiter ∷ []) (TookBack (poll_number z.0)) z.1 p q) (λ j. (position_is p (Registered i) held s j, held_is p (Registered i) held s j)) g)
+  takes_back i p q (None, clone, e, s) (finds_notified g) = let held : List (ℕ × TaskPlace F T A) = awaiter_first (Some clone) [] in has_to_take_back clone
+      (subst (λ (z : Position × List (ℕ × TaskPlace F T A)). DidWith (act TakeAwaiter ∷ []) (TookBack (poll_number z.0)) z.1 p q) (λ j. (position_is p (Registered i) held s j, held_is p (Registered i) held s j)) g)
   takes_back i p q (Some old, clone, e, s) x = never (sym e)
 
   pub stored_after : (i : ℕ) (stood : Bool) (p q r : Party F T A) (a : ℕ) → Settles i stood p q → EndsStore i false q r a → EndsStore i stood p r a
   stored_after i stood p q r _ x end_missed = end_missed
-  stored_after i stood p q r _ x (looks v a e l) = looks v a e (l.0, did_then p q l.0 (dropped_if stood) (row EndRegister v ∷ []) (Registered i) (Looking i) ((2, Awaiter x.0) ∷ []) [] x.1 l.1, l.2)
-  stored_after i stood p q r _ x (has_to_take_back clone g) = has_to_take_back clone (did_then p q r (dropped_if stood) (act TakeAwaiter ∷ []) (Registered i) (TookBack i) ((2, Awaiter x.0) ∷ []) ((2, Awaiter clone) ∷ []) x.1 g)
+  stored_after i stood p q r _ x (looks v a e l) = looks v a e (l.0, did_then p q l.0 (dropped_if stood) (row EndRegister v ∷ []) (Registered i) (Looking i) (awaiter_first (Some x.0) []) [] x.1 l.1, l.2)
+  stored_after i stood p q r _ x (has_to_take_back clone g) = has_to_take_back clone (did_then p q r (dropped_if stood) (act TakeAwaiter ∷ []) (Registered i) (TookBack i) (awaiter_first (Some x.0) []) (awaiter_first (Some clone) []) x.1 g)

@@ -3,7 +3,7 @@ use Rattle.std.specs.Prelude.{◌≡◌, ℕ, ◌||◌, nat_lt, Bool, true, fals
 use Rattle.task_core.specs.Word.{State, is_open}
 use Rattle.task_core.specs.declared.acts.Act.TheVariants.{GiveUpReference, GiveUpLastReference, EndCall, BeginNotify, EndNotify, TakeAwaiter}
 use Rattle.task_core.specs.declared.acts.Act.TheVariants.{WakeAwaiter, AnswerReady, AnswerPending, DropFuture, StoreOutput, Complete}
-use Rattle.task_core.specs.declared.acts.Act.TheVariants.{CompleteDetached, EndIdle, DropWaker, DropLastWaker, EmptySlots}
+use Rattle.task_core.specs.declared.acts.Act.TheVariants.{CompleteDetached, EndIdle, EndOrphaned, HandOver, Reschedule, OrphanTask, CloseOrphan, DropWaker, DropLastWaker, EmptySlots}
 use Rattle.task_laws.specs.declared.positions.Answer.{Answer}
 use Rattle.task_laws.specs.declared.positions.Answer.TheVariants.{Nothing, Ran}
 use Rattle.task_laws.specs.declared.positions.NotifyingCall.{NotifyingCall}
@@ -14,13 +14,14 @@ use Rattle.task_steps.specs.declared.table.Deed.{Deed}
 use Rattle.task_steps.specs.Deeds.{row, act, after}
 use Rattle.task_steps.specs.Rule.{Waits, member, view}
 use Rattle.task_steps.specs.Standing.{as_runnable, as_task, as_waker, as_lent, as_ended}
-use Rattle.task_steps.specs.Steps.{future_first, output_first}
+use Rattle.task_steps.specs.Steps.{work_first, awaiter_first}
 use Rattle.task_steps.specs.WakerScripts.{others_left}
 use Rattle.task_cell.specs.Calls.{Did, DidWith, Fits, Stands}
 use Rattle.task_cell.specs.RunPaths.{NotifyPath}
 use Rattle.task_cell.specs.Starts.{TakesUp}
 use Rattle.task_cell.specs.WakerPaths.{GainPath, TaskWakePath}
 use Rattle.task_exports.specs.Hands.{IsLive, IsGone, SameCell}
+use Rattle.task_exports.specs.Parties.{CellParty}
 use Rattle.task_exports.specs.declared.hand.Hand.{Hand}
 use Rattle.task_exports.specs.declared.handle.Handle.{Handle}
 use Rattle.task_exports.specs.declared.grip.Hold.{Hold}
@@ -46,12 +47,12 @@ pub data GivesBack (before : List Deed) (x k : Hand) : ℕ → Type 0 where
   others : (w : State) → Fits GiveUpReference w → IsGone k → Did (before ++ row GiveUpReference w ∷ act EndCall ∷ []) as_ended x.party k.party
       → GivesBack before x k 1
   none_left : (w : State) (answer : Answer) (y : _) → Fits GiveUpLastReference w → IsLive k
-      → DidWith (before ++ row GiveUpLastReference w ∷ []) (Emptier None answer) ((2, y) ∷ []) x.party k.party → GivesBack before x k 9
+      → DidWith (before ++ row GiveUpLastReference w ∷ []) (Emptier None answer) (awaiter_first y []) x.party k.party → GivesBack before x k 9
 
 -- after these deeds the awaiter is taken where it is due: 7, its place is the party's; else the reference is given up
 pub data GoesOn (way : NotifyingCall) (due : Bool) (before : List Deed) (x k : Hand) : ℕ → Type 0 where
   takes : (w : State) (hand : Option ℕ) (y : _) → due ≡ true → Fits BeginNotify w → IsLive k → Waits hand y
-      → DidWith (before ++ row BeginNotify w ∷ act TakeAwaiter ∷ []) (Releaser hand way) ((2, y) ∷ []) x.party k.party
+      → DidWith (before ++ row BeginNotify w ∷ act TakeAwaiter ∷ []) (Releaser hand way) (awaiter_first y []) x.party k.party
       → GoesOn way due before x k 7
   gives : (n : List Deed) (r : ℕ) → NotifyPath due false n → GivesBack (before ++ n) x k r → GoesOn way due before x k r
 
@@ -62,15 +63,15 @@ pub data Finishes (x k : Hand) : Option ℕ → ℕ → Type 0 where
   wakes : (v w : State) (i : ℕ) → Fits GiveUpReference w → IsGone k
       → Did (row EndNotify v ∷ row GiveUpReference w ∷ act WakeAwaiter ∷ act EndCall ∷ []) as_ended x.party k.party → Finishes x k (Some i) 8
   last : (v w : State) (y : _) → Fits GiveUpLastReference w → IsLive k
-      → DidWith (row EndNotify v ∷ row GiveUpLastReference w ∷ []) (Emptier None (Ran false)) ((2, y) ∷ []) x.party k.party → Finishes x k None 9
+      → DidWith (row EndNotify v ∷ row GiveUpLastReference w ∷ []) (Emptier None (Ran false)) (awaiter_first y []) x.party k.party → Finishes x k None 9
   last_wakes : (v w : State) (i : ℕ) (y : _) → Fits GiveUpLastReference w → IsLive k
-      → DidWith (row EndNotify v ∷ row GiveUpLastReference w ∷ []) (Emptier (Some i) (Ran false)) ((2, y) ∷ []) x.party k.party
+      → DidWith (row EndNotify v ∷ row GiveUpLastReference w ∷ []) (Emptier (Some i) (Ran false)) (awaiter_first y []) x.party k.party
       → Finishes x k (Some i) 15
 
 -- the awaiter's place is taken where it is due, or the party is past it
 pub data BeginsDue (way : NotifyingCall) (due : Bool) (x k : Hand) : Bool → Type 0 where
   takes_place : (w : State) (hand : Option ℕ) (y : _) → due ≡ true → Fits BeginNotify w → Waits hand y
-      → DidWith (row BeginNotify w ∷ act TakeAwaiter ∷ []) (Releaser hand way) ((2, y) ∷ []) x.party k.party → BeginsDue way due x k true
+      → DidWith (row BeginNotify w ∷ act TakeAwaiter ∷ []) (Releaser hand way) (awaiter_first y []) x.party k.party → BeginsDue way due x k true
   is_past : (n : List Deed) → NotifyPath due false n → Did n (after_taking None way) x.party k.party → BeginsDue way due x k false
 
 -- the calls that give the reference up once the awaiter was taken, or was not
@@ -83,22 +84,24 @@ pub data Completed (x k : Hand) : ℕ → Type 0 where
   keeps : (w : State) (r : ℕ) → w.task ≡ true → w.closed ≡ false
       → GoesOn OfRun w.awaiter (act AnswerReady ∷ act DropFuture ∷ act StoreOutput ∷ row Complete w ∷ []) x k r → Completed x k r
   unclaimed : (w : State) (z : _) → w.task ≡ true → w.closed ≡ true → IsLive k
-      → DidWith (act AnswerReady ∷ act DropFuture ∷ act StoreOutput ∷ row Complete w ∷ []) (OutputInHand w.awaiter) (output_first z []) x.party k.party
+      → DidWith (act AnswerReady ∷ act DropFuture ∷ act StoreOutput ∷ row Complete w ∷ []) (OutputInHand w.awaiter) (work_first z []) x.party k.party
       → Completed x k (if w.awaiter then 6 else 5)
   detached : (w : State) (z : _) → w.task ≡ false → IsLive k
-      → DidWith (act AnswerReady ∷ act DropFuture ∷ act StoreOutput ∷ row CompleteDetached w ∷ []) (OutputInHand w.awaiter) (output_first z [])
+      → DidWith (act AnswerReady ∷ act DropFuture ∷ act StoreOutput ∷ row CompleteDetached w ∷ []) (OutputInHand w.awaiter) (work_first z [])
       x.party k.party
       → Completed x k (if w.awaiter then 6 else 5)
 
--- a run whose poll answered Pending: 4, the task was closed; 11 and 10, its Runnable; 1, the call has ended
-pub data Pends (x k : Hand) : ℕ → Type 0 where
-  pend_missed : Pends x k 0
-  closed : (y : _) → IsLive k → DidWith (act AnswerPending ∷ act DropFuture ∷ []) PendingFutureDropped (future_first y []) x.party k.party → Pends x k 4
-  woken : (w : State) → w.closed ≡ false → w.scheduled ≡ true → IsLive k → Stands as_runnable k.party → Pends x k 11
-  orphaned : (w : State) → w.closed ≡ false → w.scheduled ≡ false → (nat_lt 1 w.references || w.task) ≡ false → IsLive k → Stands as_runnable k.party
-      → Pends x k 10
+-- a run whose poll answered Pending: 4, the task was closed; 11 and 10, its Runnable, by a party that has ended; 1, the call has ended
+pub data Pends (x k : Hand) : Option CellParty → ℕ → Type 0 where
+  pend_missed : Pends x k None 0
+  closed : (y : _) → IsLive k → DidWith (act AnswerPending ∷ act DropFuture ∷ []) PendingFutureDropped (work_first y []) x.party k.party → Pends x k None 4
+  woken : (w : State) (ended : CellParty) → w.closed ≡ false → w.scheduled ≡ true → IsLive k → Stands as_runnable k.party
+      → Did (act AnswerPending ∷ row Reschedule w ∷ act HandOver ∷ act EndCall ∷ []) as_ended x.party ended → Pends x k (Some ended) 11
+  orphaned : (w : State) (ended : CellParty) → w.closed ≡ false → w.scheduled ≡ false → (nat_lt 1 w.references || w.task) ≡ false → IsLive k
+      → Stands as_runnable k.party → Did (act AnswerPending ∷ row EndOrphaned w ∷ act HandOver ∷ act EndCall ∷ []) as_ended x.party ended
+      → Pends x k (Some ended) 10
   idle : (w : State) → w.closed ≡ false → w.scheduled ≡ false → (nat_lt 1 w.references || w.task) ≡ true → IsGone k
-      → Did (act AnswerPending ∷ row EndIdle w ∷ act EndCall ∷ []) as_ended x.party k.party → Pends x k 1
+      → Did (act AnswerPending ∷ row EndIdle w ∷ act EndCall ∷ []) as_ended x.party k.party → Pends x k None 1
 
 -- a Runnable's drop whose awaiter is out of its place: 14, it is to be woken; else the reference is given up
 pub data Discarded (x k : Hand) : Option ℕ → ℕ → Type 0 where
@@ -125,17 +128,24 @@ pub data Puts (Says : Hand → ℕ → Type 0) (k : Handle) : ℕ → Type 0 whe
   puts_none : k.there ≡ false → Puts Says k 0
   puts : (n : ℕ) → k.there ≡ true → Says k.hand n → Puts Says k n
 
+-- .. or has brought
+pub data Comes (Says : Hand → ℕ → Type 0) : Option Hand → ℕ → Type 0 where
+  comes_none : Comes Says None 0
+  comes : (n : ℕ) (k : Hand) → Says k n → Comes Says (Some k) n
+
 -- the last handle has emptied the places, and its call has ended
 abbrev pub empties : Bool → List Deed
 empties true = act EmptySlots ∷ act WakeAwaiter ∷ act EndCall ∷ []
 empties false = act EmptySlots ∷ act EndCall ∷ []
 
--- a waker's drop: 1, others are left; 9, it was the last handle of a task that is over; 10, of an open task: its Runnable
-pub data DropsWaker (x k : Hand) : ℕ → Type 0 where
-  shared : (w : State) → others_left w ≡ true → IsGone k → Did (row DropWaker w ∷ act EndCall ∷ []) as_ended x.party k.party → DropsWaker x k 1
+-- a waker's drop: 1, others are left; 9, it was the last handle of a task that is over; 10, of an open task: its Runnable, by a party that
+-- has ended
+pub data DropsWaker (x k : Hand) : Option CellParty → ℕ → Type 0 where
+  shared : (w : State) → others_left w ≡ true → IsGone k → Did (row DropWaker w ∷ act EndCall ∷ []) as_ended x.party k.party → DropsWaker x k None 1
   last_waker : (w : State) (y : _) → others_left w ≡ false → is_open w ≡ false → IsLive k
-      → DidWith (row DropLastWaker w ∷ []) (Emptier None Nothing) ((2, y) ∷ []) x.party k.party → DropsWaker x k 9
-  orphan_waker : (w : State) → others_left w ≡ false → is_open w ≡ true → IsLive k → Stands as_runnable k.party → DropsWaker x k 10
+      → DidWith (row DropLastWaker w ∷ []) (Emptier None Nothing) (awaiter_first y []) x.party k.party → DropsWaker x k None 9
+  orphan_waker : (w v : State) (ended : CellParty) → others_left w ≡ false → is_open w ≡ true → IsLive k → Stands as_runnable k.party
+      → Did (row OrphanTask w ∷ row CloseOrphan v ∷ act HandOver ∷ act EndCall ∷ []) as_ended x.party ended → DropsWaker x k (Some ended) 10
 
 -- a hold: 12, it is made
 pub data Holds (k : Hold) : ℕ → Type 0 where

@@ -3,3 +3,4 @@ pub mod Places
 pub mod Answers
 pub mod Parties
 pub mod TaskAnswers
+pub mod CallPaths

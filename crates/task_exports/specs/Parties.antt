@@ -1,11 +1,13 @@
 -- The party of a hand, and what a step keeps of a place.
 use Rattle.std.specs.declared.alloc.Global.{Global}
-use Rattle.std.specs.Prelude.{◌≡◌, ℕ, true}
+use Rattle.std.specs.Prelude.{◌≡◌, ℕ, true, Option, Some, None}
 use Rattle.counted_block.specs.Blocks.{BlockId}
 use Rattle.task_cell.specs.declared.cell.Cell.{Cell}
 use Rattle.task_exports.specs.declared.hand.Hand.{Hand}
+use Rattle.task_exports.specs.declared.hand.Record.{Record}
 use Rattle.task_exports.specs.declared.handle.Handle.{Handle}
 
+-- what a function of hands answers, as a type
 abbrev pub type_of : {P : Type 0} → (Hand → P) → Type 0
 type_of {P} f = P
 
@@ -13,13 +15,23 @@ type_of {P} f = P
 abbrev pub CellParty : Type 0
 CellParty = type_of (λ (x : Hand). x.party)
 
+-- the party of a record, where there is one
+abbrev pub party_in : Option Record → Option CellParty
+party_in None = None
+party_in (Some call) = Some call.party
+
 -- which cell it is, and its limit of references
 abbrev pub cell_in : Hand → BlockId × Cell Unit Unit Unit Global
 cell_in x = (x.share.maybe.id, x.share.maybe.value)
 
+-- the limit of references of its cell
 abbrev pub limit_at : Hand → ℕ
 limit_at x = x.share.maybe.key
 
--- a share of the same cell lies in the place as before
+-- a share of the same cell is there still
+abbrev pub Stays : Hand → Hand → Type 0
+Stays x y = (y.share.maybe.there ≡ true) × (cell_in y ≡ cell_in x) × (limit_at y ≡ limit_at x)
+
+-- .. and lies in the place as before
 abbrev pub Keeps : Handle → Handle → Type 0
 Keeps h k = (k.there ≡ true) × (k.hand.share.maybe.there ≡ true) × (cell_in k.hand ≡ cell_in h.hand) × (limit_at k.hand ≡ limit_at h.hand)

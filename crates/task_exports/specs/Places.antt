@@ -1,8 +1,10 @@
 -- What the caller's memory has at a place.
-use Rattle.std.specs.Prelude.{Bool, true, false}
+use Rattle.std.specs.Prelude.{◌≡◌, Bool, true, false, [], ◌∷◌, Option, Some, None}
 use base.Fraction.{full_share}
-use base.Fml.{Fml}
+use base.Fml.{Fml, ftrue, fex, fsep}
+use mir.Val.{Val}
 use denote.RawPtr.{Ptr, lies_at, room_at}
+use Rattle.counted_block.specs.Blocks.{place}
 use Rattle.task_exports.specs.contracts.hand.Hand.{the_row as hand_row}
 use Rattle.task_exports.specs.contracts.hand.Grip.{the_row as grip_row}
 
@@ -15,3 +17,16 @@ hand_if false p x = room_at hand_row p
 abbrev pub grip_if : Bool → Ptr → grip_row.Denot → Fml
 grip_if true p x = lies_at grip_row full_share p x
 grip_if false p x = room_at grip_row p
+
+-- what a handle owns, whatever its bits are
+abbrev pub owned : hand_row.Denot → Fml
+owned x = fex Val (λ v. hand_row.own_val x (v ∷ []))
+
+-- .. where they are the address of its block
+abbrev pub owned_at : Ptr → hand_row.Denot → Fml
+owned_at p x = fsep (fex (p ≡ place x.share.maybe.id) (λ _. ftrue)) (owned x)
+
+-- .. where there is one
+abbrev pub owned_if : Option hand_row.Denot → Fml
+owned_if None = ftrue
+owned_if (Some x) = owned x

@@ -16,12 +16,11 @@ use Rattle.task_laws.specs.declared.positions.Position.TheVariants.{Registered, 
 use Rattle.task_laws.specs.Table.{after_storing, after_waking, notifies}
 use Rattle.task_steps.specs.declared.table.Deed.{Deed}
 use Rattle.task_steps.specs.declared.table.Slot.{Slot}
-use Rattle.task_steps.specs.declared.table.Slot.TheVariants.{Awaiter}
 use Rattle.task_steps.specs.Deeds.{row, act}
 use Rattle.task_steps.specs.PollScripts.{has_output, has_ended, has_to_wait}
-use Rattle.task_steps.specs.Rule.{IsOutput, Waits}
-use Rattle.task_steps.specs.Standing.{as_deliverer, as_ended, as_runnable, as_task}
-use Rattle.task_steps.specs.Steps.{output_first}
+use Rattle.task_steps.specs.Rule.{IsOutput, Waits, TaskPlace}
+use Rattle.task_steps.specs.Standing.{as_ended, as_runnable, as_task}
+use Rattle.task_steps.specs.Steps.{work_first, awaiter_first}
 use Rattle.task_cell.specs.Calls.{Fits, Did, DidWith, Stands, StandsWith}
 use Rattle.task_cell.specs.PollPaths.{dropped_if}
 use Rattle.task_cell.specs.declared.cell.Party.{Party}
@@ -52,39 +51,42 @@ pub data IsStored : Option ℕ → ℕ → Type 0 where
 
 module _ {F T A : Type 0} where
   -- the place of the awaiter is the party's, and what the machine says lies there
-  abbrev pub AtPlace : NotifyingCall → List (ℕ × Slot F T A) → Party F T A → Type 0
-  AtPlace way held p = (hand : Option ℕ) × (y : Slot F T A) × Waits hand y × StandsWith (Releaser hand way) ((2, y) ∷ held) p
+  abbrev pub AtPlace : NotifyingCall → List (ℕ × TaskPlace F T A) → Party F T A → Type 0
+  AtPlace way held p = (hand : Option ℕ) × (y : Option A) × Waits hand y × StandsWith (Releaser hand way) (awaiter_first y held) p
 
   -- .. or what lay there is in hand
-  abbrev pub InHand : NotifyingCall → List (ℕ × Slot F T A) → Party F T A → Type 0
+  abbrev pub InHand : NotifyingCall → List (ℕ × TaskPlace F T A) → Party F T A → Type 0
   InHand way held p = (i : ℕ) × StandsWith (AwaiterInHand i way) held p
 
   -- .. or it is the party's after this path, by the word that it was taken on
-  abbrev pub TakesPlace : NotifyingCall → (State → List Deed) → List (ℕ × Slot F T A) → Party F T A → Party F T A → Type 0
+  abbrev pub TakesPlace : NotifyingCall → (State → List Deed) → List (ℕ × TaskPlace F T A) → Party F T A → Party F T A → Type 0
   TakesPlace way path held p q =
-      (v : State) × (hand : Option ℕ) × (y : Slot F T A) × Fits BeginNotify v × Waits hand y
-      × DidWith (path v) (Releaser hand way) ((2, y) ∷ held) p q
+      (v : State) × (hand : Option ℕ) × (y : Option A) × Fits BeginNotify v × Waits hand y
+      × DidWith (path v) (Releaser hand way) (awaiter_first y held) p q
 
   -- the clone of poll i is in the place of the awaiter, and whether an older awaiter stood there, which has not been dropped yet
   abbrev pub HasStored : ℕ → Bool → Party F T A → Type 0
-  HasStored i stood p = (old : Option ℕ) × (clone : A) × (is_some old ≡ stood) × StandsWith (after_storing i old) ((2, Awaiter clone) ∷ []) p
+  HasStored i stood p = (old : Option ℕ) × (clone : A) × (is_some old ≡ stood) × StandsWith (after_storing i old) (awaiter_first (Some clone) []) p
 
-  -- .. it was put there, and it was noted that the older one was dropped
+  -- .. it was put there
   abbrev pub PutsIn : ℕ → Option ℕ → Party F T A → Party F T A → ℕ → Type 0
-  PutsIn i old p q r = IsStored old r × (clone : A) × DidWith [] (after_storing i old) ((2, Awaiter clone) ∷ []) p q
+  PutsIn i old p q r = IsStored old r × (clone : A) × DidWith [] (after_storing i old) (awaiter_first (Some clone) []) p q
 
+  -- the clone stays in the place, and an older awaiter is written down as dropped
   abbrev pub Settles : ℕ → Bool → Party F T A → Party F T A → Type 0
-  Settles i stood p q = (clone : A) × DidWith (dropped_if stood) (Registered i) ((2, Awaiter clone) ∷ []) p q
+  Settles i stood p q = (clone : A) × DidWith (dropped_if stood) (Registered i) (awaiter_first (Some clone) []) p q
 
-  -- a poll whose output was claimed, at its place, with the awaiter in hand, and without one
-  abbrev pub ClaimAtPlace : ℕ → Slot F T A → Party F T A → Type 0
-  ClaimAtPlace i z p = IsOutput z × AtPlace (OfClaim i) (output_first z []) p
+  -- a poll whose output was claimed, and which has the place of the awaiter
+  abbrev pub ClaimAtPlace : ℕ → Slot F T → Party F T A → Type 0
+  ClaimAtPlace i z p = IsOutput z × AtPlace (OfClaim i) (work_first z []) p
 
-  abbrev pub ClaimInHand : ℕ → Slot F T A → Party F T A → Type 0
-  ClaimInHand i z p = IsOutput z × InHand (OfClaim i) (output_first z []) p
+  -- a poll whose output was claimed, with the awaiter in hand
+  abbrev pub ClaimInHand : ℕ → Slot F T → Party F T A → Type 0
+  ClaimInHand i z p = IsOutput z × InHand (OfClaim i) (work_first z []) p
 
-  abbrev pub HasOutput : ℕ → Slot F T A → Party F T A → Type 0
-  HasOutput i z p = IsOutput z × StandsWith (TookOutput i) (output_first z []) p
+  -- a poll that is to hand the output out
+  abbrev pub HasOutput : ℕ → Slot F T → Party F T A → Type 0
+  HasOutput i z p = IsOutput z × StandsWith (TookOutput i) (work_first z []) p
 
   -- a cancel by a Task that has begun n polls
   pub data Cancels (n : ℕ) (p q : Party F T A) : ℕ → Type 0 where
@@ -105,17 +107,17 @@ module _ {F T A : Type 0} where
     takes : due ≡ true → TakesPlace (OfCancel n) taking [] p q → CancelGoesOn due n p q 7
 
   -- what lay in the place of the awaiter was taken: it is in hand; or nothing lay there, and the party has gone on, with this answer
-  pub data Releases (way : NotifyingCall) (held : List (ℕ × Slot F T A)) (after : List Deed) (at : Position) (answer : ℕ)
+  pub data Releases (way : NotifyingCall) (held : List (ℕ × TaskPlace F T A)) (after : List Deed) (at : Position) (answer : ℕ)
       (p q : Party F T A) : ℕ → Type 0 where
     in_hand : (v : State) (i : ℕ) → DidWith (row EndNotify v ∷ []) (AwaiterInHand i way) held p q
         → Releases way held after at answer p q 14
     none_there : (v : State) → DidWith (row EndNotify v ∷ after) at held p q → Releases way held after at answer p q answer
 
   -- a poll that has claimed the output, on a word with an awaiter or without one
-  pub data ClaimGoesOn (due : Bool) (i : ℕ) (z : Slot F T A) (p q : Party F T A) : ℕ → Type 0 where
-    has_it_now : (notice : List Deed) → PassesBy due notice → DidWith notice (TookOutput i) (output_first z []) p q
+  pub data ClaimGoesOn (due : Bool) (i : ℕ) (z : Slot F T) (p q : Party F T A) : ℕ → Type 0 where
+    has_it_now : (notice : List Deed) → PassesBy due notice → DidWith notice (TookOutput i) (work_first z []) p q
         → ClaimGoesOn due i z p q 16
-    claim_takes : due ≡ true → TakesPlace (OfClaim i) taking (output_first z []) p q → ClaimGoesOn due i z p q 24
+    claim_takes : due ≡ true → TakesPlace (OfClaim i) taking (work_first z []) p q → ClaimGoesOn due i z p q 24
 
   -- a poll that has found the task ended
   pub data EndGoesOn (i : ℕ) (p q : Party F T A) : ℕ → Type 0 where
@@ -125,10 +127,10 @@ module _ {F T A : Type 0} where
   -- a look of poll i that claims the output by this path: where it is there it is claimed, and where the task has ended the poll is over;
   -- both once the awaiter was taken
   pub data Answers (i : ℕ) (claims : State → List Deed) (p q : Party F T A) : ℕ → Type 0 where
-    has_it : (w : State) (z : Slot F T A) (notice : List Deed) → has_output w ≡ true → IsOutput z → PassesBy w.awaiter notice
-        → DidWith (claims w ++ notice) (TookOutput i) (output_first z []) p q → Answers i claims p q 16
-    has_it_and_takes : (w : State) (z : Slot F T A) → has_output w ≡ true → IsOutput z → w.awaiter ≡ true
-        → TakesPlace (OfClaim i) (λ v. claims w ++ taking v) (output_first z []) p q → Answers i claims p q 24
+    has_it : (w : State) (z : Slot F T) (notice : List Deed) → has_output w ≡ true → IsOutput z → PassesBy w.awaiter notice
+        → DidWith (claims w ++ notice) (TookOutput i) (work_first z []) p q → Answers i claims p q 16
+    has_it_and_takes : (w : State) (z : Slot F T) → has_output w ≡ true → IsOutput z → w.awaiter ≡ true
+        → TakesPlace (OfClaim i) (λ v. claims w ++ taking v) (work_first z []) p q → Answers i claims p q 24
     ends : (w v : State) → has_ended w ≡ true → Fits MissNotify v
         → Did (row Look w ∷ row MissNotify v ∷ act EndCall ∷ []) (as_task i) p q → Answers i claims p q 17
     ends_and_takes : (w : State) → has_ended w ≡ true → TakesPlace (OfPoll i) (λ v. row Look w ∷ taking v) [] p q → Answers i claims p q 7
@@ -153,7 +155,7 @@ module _ {F T A : Type 0} where
   pub data Stores (i : ℕ) (p q : Party F T A) : ℕ → Type 0 where
     store_missed : Stores i p q 0
     stores : (w : State) (old : Option ℕ) (clone : A) (r : ℕ) → w.notifying ≡ false → IsStored old r
-        → DidWith (act CloneAwaiter ∷ row BeginRegister w ∷ act StoreAwaiter ∷ []) (after_storing i old) ((2, Awaiter clone) ∷ []) p q
+        → DidWith (act CloneAwaiter ∷ row BeginRegister w ∷ act StoreAwaiter ∷ []) (after_storing i old) (awaiter_first (Some clone) []) p q
         → Stores i p q r
     finds_notifier : (w : State) → w.notifying ≡ true → Did (act CloneAwaiter ∷ row FindNotify w ∷ []) (UnusedClone i) p q
         → Stores i p q 22
@@ -163,7 +165,7 @@ module _ {F T A : Type 0} where
     end_missed : EndsStore i stood p q 0
     looks : (v : State) (r : ℕ) → v.notifying ≡ false → LooksAfter i (dropped_if stood ++ row EndRegister v ∷ []) p q r
         → EndsStore i stood p q r
-    has_to_take_back : (clone : A) → DidWith (dropped_if stood ++ act TakeAwaiter ∷ []) (TookBack i) ((2, Awaiter clone) ∷ []) p q
+    has_to_take_back : (clone : A) → DidWith (dropped_if stood ++ act TakeAwaiter ∷ []) (TookBack i) (awaiter_first (Some clone) []) p q
         → EndsStore i stood p q 23
 
 module _ {F T A : Type 0} where
@@ -177,23 +179,24 @@ abbrev pub Becomes : Hand → Hand → Type 0
 Becomes x y = IsLive y × (cell_in y ≡ cell_in x)
 
 -- a detach: 1, the party has ended; 9, it was the last, and has the place of the awaiter, to be emptied; 5, the output is to be dropped;
--- 10, the hand is that of the Runnable which was handed over
-pub data Detaches (x y : Hand) : ℕ → Type 0 where
-  detach_missed : Detaches x y 0
-  is_shared : (w : State) → Fits Detach w → IsGone y → Did (row Detach w ∷ act EndCall ∷ []) as_ended x.party y.party → Detaches x y 1
+-- 10, the hand is that of the Runnable which was handed over, by a party that has ended
+pub data Detaches (x y : Hand) : Option CellParty → ℕ → Type 0 where
+  detach_missed : Detaches x y None 0
+  is_shared : (w : State) → Fits Detach w → IsGone y → Did (row Detach w ∷ act EndCall ∷ []) as_ended x.party y.party → Detaches x y None 1
   is_last : (w : State) (z : _) → Fits DetachLast w → Becomes x y
-      → DidWith (row DetachLast w ∷ []) (Emptier None Nothing) ((2, z) ∷ []) x.party y.party → Detaches x y 9
+      → DidWith (row DetachLast w ∷ []) (Emptier None Nothing) (awaiter_first z []) x.party y.party → Detaches x y None 9
   is_unclaimed : (w : State) (z : _) → Fits GiveUpOutput w → IsOutput z → Becomes x y
-      → DidWith (row GiveUpOutput w ∷ []) OutputCloser (output_first z []) x.party y.party → Detaches x y 5
-  is_orphaned : (w : State) (ended : CellParty) → Fits DetachOrphan w → Did (row DetachOrphan w ∷ []) as_deliverer x.party ended
-      → Becomes x y → Stands as_runnable y.party → Detaches x y 10
+      → DidWith (row GiveUpOutput w ∷ []) OutputCloser (work_first z []) x.party y.party → Detaches x y None 5
+  is_orphaned : (w : State) (ended : CellParty) → Fits DetachOrphan w
+      → Did (row DetachOrphan w ∷ act HandOver ∷ act EndCall ∷ []) as_ended x.party ended → Becomes x y → Stands as_runnable y.party
+      → Detaches x y (Some ended) 10
 
 -- .. once the output was dropped
 pub data EndsDetach (x y : Hand) : ℕ → Type 0 where
   leaves_others : (w : State) → Fits Detach w → IsGone y → Did (act DropOutput ∷ row Detach w ∷ act EndCall ∷ []) as_ended x.party y.party
       → EndsDetach x y 1
   leaves_none : (w : State) (z : _) → Fits DetachLast w → Becomes x y
-      → DidWith (act DropOutput ∷ row DetachLast w ∷ []) (Emptier None Nothing) ((2, z) ∷ []) x.party y.party → EndsDetach x y 9
+      → DidWith (act DropOutput ∷ row DetachLast w ∷ []) (Emptier None Nothing) (awaiter_first z []) x.party y.party → EndsDetach x y 9
 
 -- a Runnable of this cell, by a share of it
 abbrev pub IsRunnableAt : BlockId × Cell Unit Unit Unit Global → Hand → Type 0

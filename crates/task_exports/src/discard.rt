@@ -7,12 +7,12 @@ ghost use Rattle.task_cell.specs.RunPaths.{DiscardStart};
 ghost use Rattle.task_exports.specs.Answers.{Discarded, GivesBack, GoesOn, IsFull};
 ghost use Rattle.task_exports.specs.Hands.{IsLive};
 ghost use Rattle.task_laws.specs.declared.positions.NotifyingCall.TheVariants.{OfDrop};
-ghost use Rattle.task_laws.specs.declared.positions.Position.TheVariants.{AwaiterInHand, FutureInHand, Releaser};
+ghost use Rattle.task_laws.specs.declared.positions.Position.TheVariants.{AwaiterInHand, FutureGone, Releaser};
 ghost use Rattle.task_laws.specs.declared.positions.WithoutPoll.TheVariants.{DroppedRunnable};
 ghost use Rattle.task_steps.specs.Deeds.{row, act};
 ghost use Rattle.task_steps.specs.Rule.{Waits};
 ghost use Rattle.task_steps.specs.Standing.{as_runnable};
-ghost use Rattle.task_steps.specs.Steps.{future_first};
+ghost use Rattle.task_steps.specs.Steps.{work_first, awaiter_first};
 ghost use Rattle.task_steps.specs.declared.table.Deed.{Deed};
 
 use crate::answers::{DROP_FUTURE, WAKE_FIRST};
@@ -24,7 +24,7 @@ fn discard(hand: Hand) -> Hand
     requires hand { IsLive hand }
     requires party { Stands as_runnable hand.party }
     ensures hand { IsLive result }
-    ensures path { (d : Deed) × (y : _) × DiscardStart d × DidWith (d ∷ []) (FutureInHand DroppedRunnable) (future_first y []) hand.party result.party }
+    ensures path { (d : Deed) × (y : _) × DiscardStart d × DidWith (d ∷ act DropFuture ∷ []) (FutureGone DroppedRunnable) (work_first y []) hand.party result.party }
 {
     let Hand { share, mut party } = hand;
     let share = share.share();
@@ -40,7 +40,7 @@ pub extern "C" fn async_task_discard(h: &mut Handle) -> u32
     requires party { Stands as_runnable h.old.hand.party }
     ensures answer { result ≡ 4 }
     ensures handle { IsFull h.new }
-    ensures path { (d : Deed) × (y : _) × DiscardStart d × DidWith (d ∷ []) (FutureInHand DroppedRunnable) (future_first y []) h.old.hand.party h.new.hand.party }
+    ensures path { (d : Deed) × (y : _) × DiscardStart d × DidWith (d ∷ act DropFuture ∷ []) (FutureGone DroppedRunnable) (work_first y []) h.old.hand.party h.new.hand.party }
 {
     let hand = discard(take(h));
     put(h, hand);
@@ -49,12 +49,12 @@ pub extern "C" fn async_task_discard(h: &mut Handle) -> u32
 
 fn discarded(hand: Hand) -> (Hand, u32)
     requires hand { IsLive hand }
-    requires party { (y : _) × StandsWith (FutureInHand DroppedRunnable) (future_first y []) hand.party }
-    ensures { (w : State) × GoesOn OfDrop w.awaiter (act DropFuture ∷ row Unschedule w ∷ []) hand result.0 result.1 }
+    requires party { (y : _) × StandsWith (FutureGone DroppedRunnable) (work_first y []) hand.party }
+    ensures { (w : State) × GoesOn OfDrop w.awaiter (row Unschedule w ∷ []) hand result.0 result.1 }
 {
     let Hand { share, mut party } = hand;
     let share = share.share();
-    share.clear(&mut party, 0);
+    share.take(&mut party).discard();
     let found = share.unschedule(&mut party);
     let share = share.into_maybe();
     go_on(Hand { share, party }, found.awaiter())
@@ -64,9 +64,9 @@ fn discarded(hand: Hand) -> (Hand, u32)
 #[unsafe(no_mangle)]
 pub extern "C" fn async_task_discarded(h: &mut Handle) -> u32
     requires handle { IsFull h.old }
-    requires party { (y : _) × StandsWith (FutureInHand DroppedRunnable) (future_first y []) h.old.hand.party }
+    requires party { (y : _) × StandsWith (FutureGone DroppedRunnable) (work_first y []) h.old.hand.party }
     ensures there { h.new.there ≡ true }
-    ensures path { (w : State) × GoesOn OfDrop w.awaiter (act DropFuture ∷ row Unschedule w ∷ []) h.old.hand h.new.hand result }
+    ensures path { (w : State) × GoesOn OfDrop w.awaiter (row Unschedule w ∷ []) h.old.hand h.new.hand result }
 {
     let (hand, answer) = discarded(take(h));
     put(h, hand);
@@ -75,7 +75,7 @@ pub extern "C" fn async_task_discarded(h: &mut Handle) -> u32
 
 fn discard_taken(hand: Hand) -> (Hand, u32)
     requires hand { IsLive hand }
-    requires party { (awaiter : Option ℕ) × (y : _) × StandsWith (Releaser awaiter OfDrop) ((2, y) ∷ []) hand.party × Waits awaiter y }
+    requires party { (awaiter : Option ℕ) × (y : _) × StandsWith (Releaser awaiter OfDrop) (awaiter_first y []) hand.party × Waits awaiter y }
     ensures { (awaiter : Option ℕ) × Discarded hand result.0 awaiter result.1 }
 {
     let Hand { share, mut party } = hand;
@@ -96,7 +96,7 @@ fn discard_taken(hand: Hand) -> (Hand, u32)
 #[unsafe(no_mangle)]
 pub extern "C" fn async_task_discard_taken(h: &mut Handle) -> u32
     requires handle { IsFull h.old }
-    requires party { (awaiter : Option ℕ) × (y : _) × StandsWith (Releaser awaiter OfDrop) ((2, y) ∷ []) h.old.hand.party × Waits awaiter y }
+    requires party { (awaiter : Option ℕ) × (y : _) × StandsWith (Releaser awaiter OfDrop) (awaiter_first y []) h.old.hand.party × Waits awaiter y }
     ensures there { h.new.there ≡ true }
     ensures path { (awaiter : Option ℕ) × Discarded h.old.hand h.new.hand awaiter result }
 {

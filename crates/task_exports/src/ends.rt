@@ -11,6 +11,7 @@ ghost use Rattle.task_laws.specs.declared.positions.NotifyingCall.TheVariants.{O
 ghost use Rattle.task_laws.specs.declared.positions.Position.TheVariants.{Emptier, GivingUp, Releaser};
 ghost use Rattle.task_steps.specs.Rule.{Waits};
 ghost use Rattle.task_steps.specs.Standing.{as_ended};
+ghost use Rattle.task_steps.specs.Steps.{awaiter_first};
 
 use crate::answers::{DONE, ENDED, LAST, LAST_WAKE, OVER, TAKE, WAKE};
 use crate::hand::Hand;
@@ -63,7 +64,7 @@ pub(crate) fn go_on(hand: Hand, due: bool) -> (Hand, u32)
 // Takes the awaiter out of its place, which the caller has done, and gives the reference up.
 fn finish(hand: Hand) -> (Hand, u32)
     requires hand { IsLive hand }
-    requires party { (awaiter : Option ℕ) × (y : _) × StandsWith (Releaser awaiter OfRun) ((2, y) ∷ []) hand.party × Waits awaiter y }
+    requires party { (awaiter : Option ℕ) × (y : _) × StandsWith (Releaser awaiter OfRun) (awaiter_first y []) hand.party × Waits awaiter y }
     ensures { (awaiter : Option ℕ) × Finishes hand result.0 awaiter result.1 }
 {
     let Hand { share, mut party } = hand;
@@ -95,7 +96,7 @@ fn finish(hand: Hand) -> (Hand, u32)
 #[unsafe(no_mangle)]
 pub extern "C" fn async_task_finish(h: &mut Handle) -> u32
     requires handle { IsFull h.old }
-    requires party { (awaiter : Option ℕ) × (y : _) × StandsWith (Releaser awaiter OfRun) ((2, y) ∷ []) h.old.hand.party × Waits awaiter y }
+    requires party { (awaiter : Option ℕ) × (y : _) × StandsWith (Releaser awaiter OfRun) (awaiter_first y []) h.old.hand.party × Waits awaiter y }
     ensures there { h.new.there ≡ true }
     ensures path { (awaiter : Option ℕ) × Finishes h.old.hand h.new.hand awaiter result }
 {
@@ -114,7 +115,7 @@ fn told(ended: bool) -> u32
 // Empties the places by the last handle, and ends the call.
 fn empty(hand: Hand, took: bool) -> (Hand, u32)
     requires hand { IsLive hand }
-    requires party { (awaiter : Option ℕ) × (answer : Answer) × (y : _) × StandsWith (Emptier awaiter answer) ((2, y) ∷ []) hand.party × (is_some awaiter ≡ took) }
+    requires party { (awaiter : Option ℕ) × (answer : Answer) × (y : _) × StandsWith (Emptier awaiter answer) (awaiter_first y []) hand.party × (is_some awaiter ≡ took) }
     ensures { IsGone result.0 × Did (empties took) as_ended hand.party result.0.party }
 {
     let Hand { share, mut party } = hand;
@@ -135,7 +136,7 @@ fn empty(hand: Hand, took: bool) -> (Hand, u32)
 #[unsafe(no_mangle)]
 pub extern "C" fn async_task_empty(h: &mut Handle, took: bool) -> u32
     requires handle { IsFull h.old }
-    requires party { (awaiter : Option ℕ) × (answer : Answer) × (y : _) × StandsWith (Emptier awaiter answer) ((2, y) ∷ []) h.old.hand.party × (is_some awaiter ≡ took) }
+    requires party { (awaiter : Option ℕ) × (answer : Answer) × (y : _) × StandsWith (Emptier awaiter answer) (awaiter_first y []) h.old.hand.party × (is_some awaiter ≡ took) }
     ensures there { h.new.there ≡ true }
     ensures path { IsGone h.new.hand × Did (empties took) as_ended h.old.hand.party h.new.hand.party }
 {

@@ -5,6 +5,9 @@
 #![tactic(auto)]
 
 pub mod answers;
+pub mod bits;
+pub mod caller;
+pub mod calls;
 pub mod cancel;
 pub mod detach;
 pub mod discard;

@@ -8,7 +8,7 @@ ghost use Rattle.task_laws.specs.declared.positions.NotifyingCall.TheVariants.{O
 ghost use Rattle.task_laws.specs.declared.positions.Position.TheVariants.{Looking, Notifier};
 ghost use Rattle.task_steps.specs.Rule.{IsOutput};
 ghost use Rattle.task_steps.specs.Standing.{as_task};
-ghost use Rattle.task_steps.specs.Steps.{output_first};
+ghost use Rattle.task_steps.specs.Steps.{work_first};
 ghost use Rattle.task_steps.specs.declared.table.Slot.{Slot};
 
 use crate::answers::{MISSED, TAKE};
@@ -20,8 +20,8 @@ use task_steps::poll::{has_ended, has_to_wait};
 // The output was claimed on this word: takes the place of the awaiter where one is due and nobody else is at it.
 fn go_on_claimed(share: &CellShare, party: &mut CellParty, due: bool) -> u32
     requires cell { IsOf share.now party.old }
-    requires party { (i : ℕ) × (z : Slot _ _ _) × StandsWith (notifies due (OfClaim i)) (output_first z []) party.old }
-    ensures { (i : ℕ) (z : Slot _ _ _) → StandsWith (notifies due (OfClaim i)) (output_first z []) party.old → ClaimGoesOn due i z party.old party.new result }
+    requires party { (i : ℕ) × (z : Slot _ _) × StandsWith (notifies due (OfClaim i)) (work_first z []) party.old }
+    ensures { (i : ℕ) (z : Slot _ _) → StandsWith (notifies due (OfClaim i)) (work_first z []) party.old → ClaimGoesOn due i z party.old party.new result }
 {
     if !due {
         return OUTPUT;

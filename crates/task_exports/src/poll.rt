@@ -7,7 +7,7 @@ ghost use Rattle.task_laws.specs.declared.positions.NotifyingCall.TheVariants.{O
 ghost use Rattle.task_laws.specs.declared.positions.Position.TheVariants.{Registrar, TookOutput};
 ghost use Rattle.task_steps.specs.Deeds.{act};
 ghost use Rattle.task_steps.specs.Standing.{as_task};
-ghost use Rattle.task_steps.specs.Steps.{output_first};
+ghost use Rattle.task_steps.specs.Steps.{work_first};
 ghost use Rattle.task_steps.specs.declared.table.Slot.{Slot};
 
 use crate::answers::{DONE, WAKE_FIRST};
@@ -105,9 +105,9 @@ impl Step for PollDropped {
 pub struct ClaimTaken;
 
 impl Step for ClaimTaken {
-    ghost starts = { λ _ p. (i : ℕ) × (z : Slot _ _ _) × ClaimAtPlace i z p };
+    ghost starts = { λ _ p. (i : ℕ) × (z : Slot _ _) × ClaimAtPlace i z p };
 
-    ghost does = { λ _ p q r. (i : ℕ) (z : Slot _ _ _) → ClaimAtPlace i z p → Releases (OfClaim i) (output_first z []) [] (TookOutput i) 16 p q r };
+    ghost does = { λ _ p q r. (i : ℕ) (z : Slot _ _) → ClaimAtPlace i z p → Releases (OfClaim i) (work_first z []) [] (TookOutput i) 16 p q r };
 
     fn make(self, share: &CellShare, party: &mut CellParty) -> u32 {
         match share.end_notify(party) {
@@ -125,9 +125,9 @@ impl Step for ClaimTaken {
 pub struct ClaimWoken;
 
 impl Step for ClaimWoken {
-    ghost starts = { λ _ p. (i : ℕ) × (z : Slot _ _ _) × ClaimInHand i z p };
+    ghost starts = { λ _ p. (i : ℕ) × (z : Slot _ _) × ClaimInHand i z p };
 
-    ghost does = { λ _ p q r. (i : ℕ) (z : Slot _ _ _) → ClaimInHand i z p → (r ≡ 16) × DidWith (act WakeAwaiter ∷ []) (TookOutput i) (output_first z []) p q };
+    ghost does = { λ _ p q r. (i : ℕ) (z : Slot _ _) → ClaimInHand i z p → (r ≡ 16) × DidWith (act WakeAwaiter ∷ []) (TookOutput i) (work_first z []) p q };
 
     fn make(self, share: &CellShare, party: &mut CellParty) -> u32 {
         share.note_woken(party);
@@ -140,9 +140,9 @@ impl Step for ClaimWoken {
 pub struct ClaimDropped;
 
 impl Step for ClaimDropped {
-    ghost starts = { λ _ p. (i : ℕ) × (z : Slot _ _ _) × ClaimInHand i z p };
+    ghost starts = { λ _ p. (i : ℕ) × (z : Slot _ _) × ClaimInHand i z p };
 
-    ghost does = { λ _ p q r. (i : ℕ) (z : Slot _ _ _) → ClaimInHand i z p → (r ≡ 16) × DidWith (act DropAwaiter ∷ []) (TookOutput i) (output_first z []) p q };
+    ghost does = { λ _ p q r. (i : ℕ) (z : Slot _ _) → ClaimInHand i z p → (r ≡ 16) × DidWith (act DropAwaiter ∷ []) (TookOutput i) (work_first z []) p q };
 
     fn make(self, share: &CellShare, party: &mut CellParty) -> u32 {
         share.note_dropped(party);
@@ -155,9 +155,9 @@ impl Step for ClaimDropped {
 pub struct OutputTaken;
 
 impl Step for OutputTaken {
-    ghost starts = { λ _ p. (i : ℕ) × (z : Slot _ _ _) × HasOutput i z p };
+    ghost starts = { λ _ p. (i : ℕ) × (z : Slot _ _) × HasOutput i z p };
 
-    ghost does = { λ _ p q r. (i : ℕ) (z : Slot _ _ _) → HasOutput i z p → (r ≡ 12) × Did (act HandOutOutput ∷ act EndCall ∷ []) (as_task i) p q };
+    ghost does = { λ _ p q r. (i : ℕ) (z : Slot _ _) → HasOutput i z p → (r ≡ 12) × Did (act HandOutOutput ∷ act EndCall ∷ []) (as_task i) p q };
 
     fn make(self, share: &CellShare, party: &mut CellParty) -> u32 {
         share.hand_out(party).discard();

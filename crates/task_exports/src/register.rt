@@ -1,5 +1,5 @@
 //! The steps by which a poll registers its awaiter.
-ghost use Rattle.std.specs.Prelude.{◌≡◌, ◌∷◌, [], ℕ, Option, true, false};
+ghost use Rattle.std.specs.Prelude.{◌≡◌, ◌∷◌, [], ℕ, Option, true, false, Some};
 ghost use Rattle.task_cell.specs.Belongs.{IsOf};
 ghost use Rattle.task_cell.specs.Calls.{Did, Stands, StandsWith};
 ghost use Rattle.task_core.specs.Word.{State};
@@ -9,8 +9,7 @@ ghost use Rattle.task_laws.specs.Table.{after_storing};
 ghost use Rattle.task_laws.specs.declared.positions.Position.TheVariants.{CloneInHand, Registrar, TookBack, UnusedClone};
 ghost use Rattle.task_steps.specs.Deeds.{act, row};
 ghost use Rattle.task_steps.specs.Rule.{Waits as SlotWaits};
-ghost use Rattle.task_steps.specs.declared.table.Slot.{Slot};
-ghost use Rattle.task_steps.specs.declared.table.Slot.TheVariants.{Awaiter};
+ghost use Rattle.task_steps.specs.Steps.{awaiter_first};
 
 use crate::answers::{MISSED, WAKE_FIRST};
 use crate::hand::{CellParty, CellShare, Waits};
@@ -22,8 +21,8 @@ use task_steps::places::Held;
 // Puts the clone into the place of the awaiter, which the party has taken.
 fn put_in(share: &CellShare, party: &mut CellParty) -> u32
     requires cell { IsOf share.now party.old }
-    requires party { (i : ℕ) × (hand : Option ℕ) × (y : Slot _ _ _) × StandsWith (after_storing i hand) ((2, y) ∷ []) party.old × SlotWaits hand y }
-    ensures { (i : ℕ) (hand : Option ℕ) (y : Slot _ _ _) → StandsWith (after_storing i hand) ((2, y) ∷ []) party.old → SlotWaits hand y → PutsIn i hand party.old party.new result }
+    requires party { (i : ℕ) × (hand : Option ℕ) × (y : Option _) × StandsWith (after_storing i hand) (awaiter_first y []) party.old × SlotWaits hand y }
+    ensures { (i : ℕ) (hand : Option ℕ) (y : Option _) → StandsWith (after_storing i hand) (awaiter_first y []) party.old → SlotWaits hand y → PutsIn i hand party.old party.new result }
 {
     match share.put_clone(party, Held::new(Waits)) {
         Some(old) => {
@@ -99,9 +98,9 @@ impl Step for Registered {
 pub struct TakenBack;
 
 impl Step for TakenBack {
-    ghost starts = { λ _ p. (i : ℕ) × (clone : _) × StandsWith (TookBack i) ((2, Awaiter clone) ∷ []) p };
+    ghost starts = { λ _ p. (i : ℕ) × (clone : _) × StandsWith (TookBack i) (awaiter_first (Some clone) []) p };
 
-    ghost does = { λ _ p q r. (i : ℕ) (clone : _) → StandsWith (TookBack i) ((2, Awaiter clone) ∷ []) p → (r ≡ 14) × (v : State) × (v.notifying ≡ true) × Did (row EndRegisterNotified v ∷ []) (CloneInHand i) p q };
+    ghost does = { λ _ p q r. (i : ℕ) (clone : _) → StandsWith (TookBack i) (awaiter_first (Some clone) []) p → (r ≡ 14) × (v : State) × (v.notifying ≡ true) × Did (row EndRegisterNotified v ∷ []) (CloneInHand i) p q };
 
     fn make(self, share: &CellShare, party: &mut CellParty) -> u32 {
         share.take_back(party).discard();

@@ -1,23 +1,24 @@
 //! The steps of a run.
-ghost use Rattle.std.specs.Prelude.{◌≡◌, ℕ, [], ◌∷◌, true};
+ghost use Rattle.std.specs.Prelude.{◌≡◌, ℕ, [], ◌∷◌, Option, true};
 ghost use Rattle.task_core.specs.Word.{State};
-ghost use Rattle.task_core.specs.declared.acts.Act.TheVariants.{DropFuture, DropOutput, EndClosed, Unschedule};
+ghost use Rattle.task_core.specs.declared.acts.Act.TheVariants.{DropOutput, EndClosed, Unschedule};
 ghost use Rattle.task_cell.specs.Calls.{Stands, StandsWith};
 ghost use Rattle.task_exports.specs.Answers.{Completed, GoesOn, IsFull, Pends, Starts};
 ghost use Rattle.task_exports.specs.Hands.{IsLive};
+ghost use Rattle.task_exports.specs.Parties.{CellParty, party_in};
 ghost use Rattle.task_laws.specs.declared.positions.NotifyingCall.TheVariants.{OfRun};
-ghost use Rattle.task_laws.specs.declared.positions.Position.TheVariants.{FutureInHand, OutputInHand, PendingFutureDropped, Polling};
+ghost use Rattle.task_laws.specs.declared.positions.Position.TheVariants.{FutureGone, OutputInHand, PendingFutureDropped, Polling};
 ghost use Rattle.task_laws.specs.declared.positions.WithoutPoll.TheVariants.{ClosedRun};
 ghost use Rattle.task_steps.specs.Deeds.{row, act};
 ghost use Rattle.task_steps.specs.Rule.{IsFuture};
 ghost use Rattle.task_steps.specs.Standing.{as_runnable};
-ghost use Rattle.task_steps.specs.Steps.{future_first, output_first};
+ghost use Rattle.task_steps.specs.Steps.{work_first};
 
 use crate::answers::{
     DROP_FUTURE, DROP_OUTPUT, DROP_OUTPUT_DUE, MISSED, OVER, POLL, SCHEDULE, SCHEDULE_WOKEN,
 };
 use crate::ends::go_on;
-use crate::hand::{Elsewhere, Hand};
+use crate::hand::{Elsewhere, Hand, Record};
 use crate::handle::{Handle, put, take};
 use crate::schedule::hand_on;
 use task_cell::Kept;
@@ -56,12 +57,12 @@ pub extern "C" fn async_task_start(h: &mut Handle) -> u32
 
 fn run_closed(hand: Hand) -> (Hand, u32)
     requires hand { IsLive hand }
-    requires party { (y : _) × StandsWith (FutureInHand ClosedRun) (future_first y []) hand.party }
-    ensures { (w : State) × GoesOn OfRun w.awaiter (act DropFuture ∷ row Unschedule w ∷ []) hand result.0 result.1 }
+    requires party { (y : _) × StandsWith (FutureGone ClosedRun) (work_first y []) hand.party }
+    ensures { (w : State) × GoesOn OfRun w.awaiter (row Unschedule w ∷ []) hand result.0 result.1 }
 {
     let Hand { share, mut party } = hand;
     let share = share.share();
-    share.clear(&mut party, 0);
+    share.take(&mut party).discard();
     let found = share.unschedule(&mut party);
     let share = share.into_maybe();
     go_on(Hand { share, party }, found.awaiter())
@@ -71,9 +72,9 @@ fn run_closed(hand: Hand) -> (Hand, u32)
 #[unsafe(no_mangle)]
 pub extern "C" fn async_task_run_closed(h: &mut Handle) -> u32
     requires handle { IsFull h.old }
-    requires party { (y : _) × StandsWith (FutureInHand ClosedRun) (future_first y []) h.old.hand.party }
+    requires party { (y : _) × StandsWith (FutureGone ClosedRun) (work_first y []) h.old.hand.party }
     ensures there { h.new.there ≡ true }
-    ensures path { (w : State) × GoesOn OfRun w.awaiter (act DropFuture ∷ row Unschedule w ∷ []) h.old.hand h.new.hand result }
+    ensures path { (w : State) × GoesOn OfRun w.awaiter (row Unschedule w ∷ []) h.old.hand h.new.hand result }
 {
     let (hand, answer) = run_closed(take(h));
     put(h, hand);
@@ -82,13 +83,13 @@ pub extern "C" fn async_task_run_closed(h: &mut Handle) -> u32
 
 fn complete(hand: Hand) -> (Hand, u32)
     requires hand { IsLive hand }
-    requires party { (y : _) × StandsWith Polling (future_first y []) hand.party }
+    requires party { (y : _) × StandsWith Polling (work_first y []) hand.party }
     ensures { Completed hand result.0 result.1 }
 {
     let Hand { share, mut party } = hand;
     let share = share.share();
     share.answer_ready(&mut party);
-    share.clear(&mut party, 0);
+    share.take(&mut party).discard();
     let output = Held::new(Kept { output: Elsewhere });
     let completed = share.complete_some(&mut party, output);
     let share = share.into_maybe();
@@ -113,7 +114,7 @@ fn complete(hand: Hand) -> (Hand, u32)
 #[unsafe(no_mangle)]
 pub extern "C" fn async_task_complete(h: &mut Handle) -> u32
     requires handle { IsFull h.old }
-    requires party { (y : _) × StandsWith Polling (future_first y []) h.old.hand.party }
+    requires party { (y : _) × StandsWith Polling (work_first y []) h.old.hand.party }
     ensures there { h.new.there ≡ true }
     ensures path { Completed h.old.hand h.new.hand result }
 {
@@ -124,7 +125,7 @@ pub extern "C" fn async_task_complete(h: &mut Handle) -> u32
 
 fn drop_output(hand: Hand, due: bool) -> (Hand, u32)
     requires hand { IsLive hand }
-    requires party { (z : _) × StandsWith (OutputInHand due) (output_first z []) hand.party }
+    requires party { (z : _) × StandsWith (OutputInHand due) (work_first z []) hand.party }
     ensures { GoesOn OfRun due (act DropOutput ∷ []) hand result.0 result.1 }
 {
     let Hand { share, mut party } = hand;
@@ -138,7 +139,7 @@ fn drop_output(hand: Hand, due: bool) -> (Hand, u32)
 #[unsafe(no_mangle)]
 pub extern "C" fn async_task_output_dropped(h: &mut Handle, due: bool) -> u32
     requires handle { IsFull h.old }
-    requires party { (z : _) × StandsWith (OutputInHand due) (output_first z []) h.old.hand.party }
+    requires party { (z : _) × StandsWith (OutputInHand due) (work_first z []) h.old.hand.party }
     ensures there { h.new.there ≡ true }
     ensures path { GoesOn OfRun due (act DropOutput ∷ []) h.old.hand h.new.hand result }
 {
@@ -147,57 +148,71 @@ pub extern "C" fn async_task_output_dropped(h: &mut Handle, due: bool) -> u32
     answer
 }
 
-fn pend(hand: Hand) -> (Hand, u32)
+// What the handle's place has then, the answer, and the record of a party that has handed its share on.
+fn pend(hand: Hand) -> (Hand, u32, Option<Record>)
     requires hand { IsLive hand }
-    requires party { (y : _) × StandsWith Polling (future_first y []) hand.party × IsFuture y }
-    ensures { Pends hand result.0 result.1 }
+    requires party { (y : _) × StandsWith Polling (work_first y []) hand.party × IsFuture y }
+    ensures { Pends hand result.0 (party_in result.2) result.1 }
 {
     let Hand { share, mut party } = hand;
     let share = share.share();
     let found = share.answer_pending(&mut party);
     if found.closed() {
         let share = share.into_maybe();
-        return (Hand { share, party }, DROP_FUTURE);
+        return (Hand { share, party }, DROP_FUTURE, None);
     }
     match share.end_pending_some(&mut party, found) {
         Ok(Ok(ended)) => match ended.0 {
-            PendingEnd::Rescheduled => (hand_on(ended.1.share(), party), SCHEDULE_WOKEN),
-            PendingEnd::Idle => (
-                Hand {
-                    share: ended.1,
-                    party,
-                },
-                OVER,
-            ),
-            PendingEnd::Orphaned => (hand_on(ended.1.share(), party), SCHEDULE),
+            PendingEnd::Rescheduled => {
+                let (hand, ended) = hand_on(ended.1.share(), party);
+                (hand, SCHEDULE_WOKEN, Some(ended))
+            }
+            PendingEnd::Idle => {
+                let share = ended.1;
+                (Hand { share, party }, OVER, None)
+            }
+            PendingEnd::Orphaned => {
+                let (hand, ended) = hand_on(ended.1.share(), party);
+                (hand, SCHEDULE, Some(ended))
+            }
         },
         Ok(Err(kept)) => {
             let share = kept.into_maybe();
-            (Hand { share, party }, DROP_FUTURE)
+            (Hand { share, party }, DROP_FUTURE, None)
         }
         Err(kept) => {
             let share = kept.into_maybe();
-            (Hand { share, party }, MISSED)
+            (Hand { share, party }, MISSED, None)
         }
     }
+}
+
+/// Ends a run whose poll was pending, as `async_task_pending`: the answer, and the record of a party that has handed its share on.
+pub fn pending(h: &mut Handle) -> (u32, Option<Record>)
+    requires handle { IsFull h.old }
+    requires party { (y : _) × StandsWith Polling (work_first y []) h.old.hand.party × IsFuture y }
+    ensures there { h.new.there ≡ true }
+    ensures path { Pends h.old.hand h.new.hand (party_in result.1) result.0 }
+{
+    let (hand, answer, ended) = pend(take(h));
+    put(h, hand);
+    (answer, ended)
 }
 
 /// Ends a run whose poll was pending: 4, the task was closed meanwhile, and its future is to be dropped; 11, it was woken meanwhile, and the handle is its Runnable, which is to be scheduled; 10, nobody else has a handle, and the handle is its Runnable, which is to be scheduled; 1, the call has ended; 0, each try has missed.
 #[unsafe(no_mangle)]
 pub extern "C" fn async_task_pending(h: &mut Handle) -> u32
     requires handle { IsFull h.old }
-    requires party { (y : _) × StandsWith Polling (future_first y []) h.old.hand.party × IsFuture y }
+    requires party { (y : _) × StandsWith Polling (work_first y []) h.old.hand.party × IsFuture y }
     ensures there { h.new.there ≡ true }
-    ensures path { Pends h.old.hand h.new.hand result }
+    ensures path { (ended : Option CellParty) × Pends h.old.hand h.new.hand ended result }
 {
-    let (hand, answer) = pend(take(h));
-    put(h, hand);
-    answer
+    pending(h).0
 }
 
 fn end_closed(hand: Hand) -> (Hand, u32)
     requires hand { IsLive hand }
-    requires party { (y : _) × StandsWith PendingFutureDropped (future_first y []) hand.party }
+    requires party { (y : _) × StandsWith PendingFutureDropped (work_first y []) hand.party }
     ensures { (w : State) × (w.closed ≡ true) × GoesOn OfRun w.awaiter (row EndClosed w ∷ []) hand result.0 result.1 }
 {
     let Hand { share, mut party } = hand;
@@ -211,7 +226,7 @@ fn end_closed(hand: Hand) -> (Hand, u32)
 #[unsafe(no_mangle)]
 pub extern "C" fn async_task_pending_closed(h: &mut Handle) -> u32
     requires handle { IsFull h.old }
-    requires party { (y : _) × StandsWith PendingFutureDropped (future_first y []) h.old.hand.party }
+    requires party { (y : _) × StandsWith PendingFutureDropped (work_first y []) h.old.hand.party }
     ensures there { h.new.there ≡ true }
     ensures path { (w : State) × (w.closed ≡ true) × GoesOn OfRun w.awaiter (row EndClosed w ∷ []) h.old.hand h.new.hand result }
 {

@@ -1,10 +1,12 @@
-//! A step of a party, made by the handle that lies in the caller's memory.
+//! A step of a party, made by a handle that stays.
 ghost use Rattle.std.specs.Prelude.{◌≡◌, ℕ, true};
 ghost use Rattle.task_cell.specs.Belongs.{IsOf, limit_in};
 ghost use Rattle.task_cell.specs.Calls.{limit_of};
 ghost use Rattle.task_exports.specs.Answers.{IsFull};
-ghost use Rattle.task_exports.specs.Parties.{CellParty, Keeps};
+ghost use Rattle.task_exports.specs.Hands.{IsLive};
+ghost use Rattle.task_exports.specs.Parties.{CellParty, Keeps, Stays};
 
+use crate::bits::{Answer, Bits, close, open};
 use crate::hand::{CellParty, CellShare, Hand};
 use crate::handle::{Handle, put, take};
 
@@ -21,6 +23,20 @@ pub trait Step {
         ensures does { Self.does self party.old party.new result };
 }
 
+// Makes a step by a handle that is at hand, and has it again.
+fn make_with<S: Step>(step: S, hand: Hand) -> (Hand, u32)
+    requires handle { IsLive hand }
+    requires starts { S.starts step hand.party }
+    ensures handle { Stays hand result.0 }
+    ensures does { S.does step hand.party result.0.party result.1 }
+{
+    let Hand { share, mut party } = hand;
+    let share = share.share();
+    let answer = step.make(&share, &mut party);
+    let share = share.into_maybe();
+    (Hand { share, party }, answer)
+}
+
 /// Makes a step by the handle that lies in this place, and lies there again then.
 pub fn make_at<S: Step>(step: S, h: &mut Handle) -> u32
     requires handle { IsFull h.old }
@@ -28,10 +44,22 @@ pub fn make_at<S: Step>(step: S, h: &mut Handle) -> u32
     ensures handle { Keeps h.old h.new }
     ensures does { S.does step h.old.hand.party h.new.hand.party result }
 {
-    let Hand { share, mut party } = take(h);
-    let share = share.share();
-    let answer = step.make(&share, &mut party);
-    let share = share.into_maybe();
-    put(h, Hand { share, party });
+    let (hand, answer) = make_with(step, take(h));
+    put(h, hand);
     answer
+}
+
+/// Makes a step by the handle that has these bits, and has them still then.
+pub fn make_by<S: Step>(step: S, h: Bits) -> Answer
+    requires handle { IsLive h.hand }
+    requires starts { S.starts step h.hand.party }
+    ensures handle { Stays h.hand result.left.hand }
+    ensures does { S.does step h.hand.party result.left.hand.party result.number }
+{
+    let (hand, answer) = make_with(step, open(h));
+    let left = close(hand);
+    Answer {
+        number: answer,
+        left,
+    }
 }

@@ -1,7 +1,7 @@
 -- The laws hold after every list of steps that the machine allows.
-use Rattle.std.proofs.Common.{◌≡◌, ℕ, ◌+◌, ◌≤◌, ◌⊎◌, Bool, true, false, ◌||◌, cond, eqb, List, [], ◌∷◌, Some, None, refl, subst, arith}
+use Rattle.std.proofs.Common.{◌≡◌, ℕ, ◌+◌, ◌≤◌, ◌⊎◌, Bool, true, false, not, ◌&&◌, ◌||◌, cond, eqb, List, [], ◌∷◌, Some, None, refl, subst, arith}
 use Rattle.std.proofs.lemmas.Bool.Decides.{nat_tests}
-use Rattle.task_laws.proofs.Vocabulary.{State, bit, is_open, Event, Position, Slots, Machine, how_many, how_often, NobodyIsLeft, no_call_is_left, pending_poll, was_woken, is_waker, is_runner, owns_future, owns_output, owns_awaiter, Laws, LawsHold}
+use Rattle.task_laws.proofs.Vocabulary.{State, bit, is_open, Event, Position, Slots, Machine, how_many, count, is_output_end, how_often, NobodyIsLeft, no_call_is_left, pending_poll, was_woken, is_waker, is_runner, owns_future, owns_output, owns_awaiter, Laws, LawsHold}
 use Rattle.task_laws.proofs.Census.{Census, weigh, census, calls, runs, closers}
 use Rattle.task_laws.proofs.Invariant.{Holds}
 use Rattle.task_laws.proofs.Awaiting.{Awaiting, await, awaiting, Fits, fits}
@@ -55,6 +55,18 @@ one_awaiter limit i w slots t c b h k f = owner w c b (how_often Event.Empties t
         → m + c.emptiers + c.orphans ≡ cond w.task 0 (bit (eqb w.references 0)) → b.registering ≡ bit w.registering → b.run_takers + b.task_takers ≡ cond w.registering 0 (bit w.notifying)
         → b.run_takers ≤ c.finishing → b.task_takers + b.registering ≤ c.tasks → b.run_takers + b.task_takers + b.registering + c.emptiers ≤ 1
     owner w c b m e1 e2 e3 e4 e5 e6 e7 = grind (arith, nat_tests)
+
+-- the output comes only once the future was dropped
+one_value : (limit : ℕ) (w : State) (slots : Slots) (t : List Event) (c : Census) → Holds limit w slots t c → slots.future ≡ true → slots.output ≡ false
+one_value limit w slots t c h = apart w slots c (how_often Event.FutureReady t) (count is_output_end t) h.future h.output h.readies h.outputs h.running h.scheduled h.completed
+  where
+    apart : (w : State) (slots : Slots) (c : Census) (readies ends : ℕ)
+        → bit slots.future ≡ c.queued + c.starting + c.polling + c.pending + c.ready + c.in_hand + cond (w.running || w.scheduled) 0 (bit (is_open w))
+        → bit slots.output ≡ c.stored + c.outputs + c.claims + bit (w.completed && not w.closed)
+        → readies ≡ bit w.completed + c.ready + c.unstored + c.stored → readies ≡ ends + bit slots.output + c.ready + c.unstored
+        → runs c ≡ bit w.running → c.queued + closers c ≡ cond w.running 0 (bit w.scheduled) → (w.completed ≡ true → (w.running ≡ false) × (w.scheduled ≡ false))
+        → slots.future ≡ true → slots.output ≡ false
+    apart w slots c readies ends future output made ended running scheduled completed there = grind arith
 
 -- no awaiter is forgotten
 woken_now : (limit i : ℕ) (w : State) (slots : Slots) (t : List Event) (c : Census) (b : Awaiting) → Holds limit w slots t c → HandshakeHolds i w slots t b → Fits c b
@@ -131,6 +143,7 @@ laws_of m h = record {
   future = omega (arith, futures m.parties, h.holds.one);
   output = omega (arith, outputs m.parties, one_output m.limit m.word m.slots m.trace (census m.parties) h.holds);
   awaiter = omega (arith, awaiters 0 m.parties, one_awaiter m.limit 0 m.word m.slots m.trace (census m.parties) (awaiting 0 m.parties) h.holds (h.shakes 0) (fits 0 m.parties));
+  never_both = one_value m.limit m.word m.slots m.trace (census m.parties) h.holds;
   empty = over_slots m h;
 }
 

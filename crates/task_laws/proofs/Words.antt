@@ -1,8 +1,8 @@
 -- The word that a step leaves is the one that its act writes.
-use Rattle.std.proofs.Common.{◌≡◌, Bool, true, false, Option, Some, None, arith}
-use Rattle.task_laws.proofs.Vocabulary.{State, written, Position, Act, Scene, Outcome, rule, where_found, found}
+use Rattle.std.proofs.Common.{◌≡◌, Bool, Option, Some, None, arith}
+use Rattle.task_laws.proofs.Vocabulary.{written, Position, Act, Scene, Outcome, rule, where_found, found}
 use Rattle.task_laws.specs.Table.{leaves}
-use Rattle.task_laws.specs.Line.{Line, holds}
+use Rattle.task_laws.specs.Line.{Line}
 use Rattle.task_laws.specs.Lines.{line}
 
 pub rule_word : (s : Scene) (act : Act) (p : Position) (o : Outcome) → rule s act p ≡ Some o → o.word ≡ written act s.word

@@ -11,6 +11,7 @@ use Rattle.task_core.specs.Local.{gives_output, finished, opening_task}
 abbrev pub PlainTask : Type 0
 PlainTask = Local (Unit {0}) (Unit {0}) ℕ
 
+-- what a call makes of it, and hands out
 abbrev pub PlainEffect : Type 0
 PlainEffect = Effect (Unit {0}) (Unit {0}) ℕ
 
@@ -57,9 +58,11 @@ abbrev pub answered : Answer → List Event → List Event
 answered Nothing told = told
 answered answer told = CallEnds answer ∷ told
 
+-- the segment that ends with its call
 abbrev pub ends : AbstractCell → List Event → Answer → SegmentEnd
 ends c told answer = record { cell = c; told = answered answer told; frame = None }
 
+-- the cell, with this task in it
 abbrev pub with_task : AbstractCell → PlainTask → AbstractCell
 with_task c t = record c { task = t }
 
@@ -72,12 +75,15 @@ abbrev pub ended : Option ℕ → List Event → List Event
 ended (Some i) told = CloneEnded i ∷ told
 ended None told = told
 
+-- what is told of the emptying, where it happened
 abbrev pub told_emptied : PlainEffect → List Event → List Event
 told_emptied r told = if r.emptied then Empties ∷ ended r.dropped told else told
 
+-- the task, emptied where nobody is left
 abbrev pub emptied : AbstractCell → PlainEffect
 emptied c = empties_if (none_left c.held c.task) (becomes c.task)
 
+-- the call ends, and empties the cell where nobody is left
 abbrev pub empties : AbstractCell → List Event → Answer → SegmentEnd
 empties c told answer = ends (with_task c (emptied c).task) (told_emptied (emptied c) told) answer
 
@@ -86,6 +92,7 @@ abbrev pub wakes_last : AbstractCell → Option ℕ → List Event → Answer �
 wakes_last c (Some i) told answer = stops c (woken i told) (Ends answer)
 wakes_last c None told answer = ends c told answer
 
+-- the cell is emptied where nobody is left, and then the awaiter in hand is woken
 abbrev pub gives_up_held : AbstractCell → Option ℕ → List Event → Answer → SegmentEnd
 gives_up_held c hand told answer = wakes_last (with_task c (emptied c).task) hand (told_emptied (emptied c) told) answer
 
@@ -110,15 +117,17 @@ abbrev pub hands_over : AbstractCell → PlainEffect → Option Bool → List Ev
 hands_over c r (Some woken) told f otherwise = stops (record c { task = r.task; held = true }) (HandedOver woken ∷ told) f
 hands_over c r None told f otherwise = otherwise
 
--- `cancel`
+-- whether an awaiter is due
 abbrev pub is_due : Option ℕ → Bool
 is_due (Some i) = true
 is_due None = false
 
+-- the end of a cancel, which wakes the awaiter that it took
 abbrev pub cancel_takes : AbstractCell → Option ℕ → SegmentEnd
 cancel_takes c (Some i) = stops c (woken i []) (Ends Nothing)
 cancel_takes c None = ends c [] Nothing
 
+-- a cancel closes a task that is not over, and hands a Runnable over where it was idle
 abbrev pub cancels : AbstractCell → SegmentEnd
 cancels c =
     if finished c.task then ends c [] Nothing
@@ -137,6 +146,7 @@ abbrev pub answer_events : ℕ → PollAnswer → List Event
 answer_events i HasOutput = TaskPollEnds i HasOutput ∷ OutputTaken ∷ []
 answer_events i answer = TaskPollEnds i answer ∷ []
 
+-- the segment by which a poll of the Task ends
 abbrev pub answers : AbstractCell → List Event → ℕ → PollAnswer → SegmentEnd
 answers c told i answer = record { cell = c; told = answer_events i answer ++ told; frame = None }
 
@@ -160,6 +170,7 @@ abbrev pub stores : AbstractCell → ℕ → Option ℕ → SegmentEnd
 stores c i (Some old) = stops (record c { storing = true }) (CloneEnded old ∷ []) (Stores i)
 stores c i None = looks c i
 
+-- whether a run has queued its task again
 abbrev pub is_again : Option Bool → Bool
 is_again (Some woken) = woken
 is_again None = false
@@ -222,6 +233,7 @@ pub data Move : Type 0 where
   Begin : Call → Move
   Go : Bool → Move
 
+-- the abstract task within a run: its cell, its open calls, innermost first, and what was told, newest first
 pub record Abstract : Type 0 where
   pub cell : AbstractCell
   pub frames : List Frame
@@ -232,13 +244,16 @@ abbrev pub put : Option Frame → List Frame → List Frame
 put (Some f) frames = f ∷ frames
 put None frames = frames
 
+-- the run after a segment: what is left of the call stands on the stack
 abbrev pub follow : SegmentEnd → List Frame → List Event → Abstract
 follow l frames told = record { cell = l.cell; frames = put l.frame frames; told = l.told ++ told }
 
+-- the innermost open call goes on by what foreign code answered
 abbrev pub continues : AbstractCell → List Frame → List Event → Bool → Option Abstract
 continues c [] told answer = None
 continues c (f ∷ frames) told answer = Some (follow (go c f answer) frames told)
 
+-- the run after one move, where it may be made
 abbrev pub moved : ℕ → Abstract → Move → Option Abstract
 moved limit a (Begin call) = Some (follow (begin limit a.cell call) a.frames a.told)
 moved limit a (Go answer) = continues a.cell a.frames a.told answer
@@ -252,6 +267,7 @@ opening_cell = record {
   owed = false;
 }
 
+-- one move more
 abbrev pub then_moved : ℕ → Option Abstract → Move → Option Abstract
 then_moved limit None move = None
 then_moved limit (Some a) move = moved limit a move

@@ -52,6 +52,7 @@ after_storing i None = Registered i
 abbrev pub first_look : State → ℕ → Position
 first_look w i = if w.closed && not (w.scheduled || w.running) then Notifier (OfPoll i) else Registrar i
 
+-- by its second load: the task has ended, there is an output to claim, or the poll waits
 abbrev pub second_look : State → ℕ → Position
 second_look w i =
     if w.closed then (if w.scheduled || w.running then Answering i IsPending else Notifier (OfPoll i))

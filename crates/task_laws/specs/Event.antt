@@ -5,9 +5,11 @@ pub use Rattle.task_laws.specs.declared.positions.PollAnswer.TheVariants.{IsPend
 pub use Rattle.task_laws.specs.declared.positions.Answer.{Answer}
 pub use Rattle.task_laws.specs.declared.positions.Answer.TheVariants.{Nothing, Ran, Gained, Finished}
 
+-- why a Runnable was made
 pub data Maker : Type 0 where
   BySpawn ByWake ByClosing : Maker
 
+-- what may happen to a task
 pub data Event : Type 0 where
   -- polls of the future
   FuturePollBegins FuturePending FutureReady : Event

@@ -45,6 +45,7 @@ owns_future Ready = true
 owns_future (FutureInHand closer) = true
 owns_future _ = false
 
+-- which party may touch the output's slot
 abbrev pub owns_output : Position → Bool
 owns_output ReadyFutureDropped = true
 owns_output OutputStored = true
@@ -57,6 +58,7 @@ owns_output (AwaiterInHand i (OfClaim n)) = true
 owns_output (TookOutput n) = true
 owns_output _ = false
 
+-- which party may touch the awaiter's slot
 abbrev pub owns_awaiter : Position → Bool
 owns_awaiter (Taker way) = true
 owns_awaiter (Releaser hand way) = true

@@ -26,20 +26,24 @@ is_future_answer FuturePending = true
 is_future_answer FutureReady = true
 is_future_answer _ = false
 
+-- the output was handed out or dropped
 abbrev pub is_output_end : Event → Bool
 is_output_end OutputTaken = true
 is_output_end OutputDropped = true
 is_output_end _ = false
 
+-- a Runnable was made
 abbrev pub is_made : Event → Bool
 is_made (Made by) = true
 is_made _ = false
 
+-- a call ended, with its answer
 abbrev pub is_call_end : Event → Bool
 is_call_end (CallEnds answer) = true
 is_call_end (TaskPollEnds i answer) = true
 is_call_end _ = false
 
+-- a poll of the Task began
 abbrev pub is_task_poll : Event → Bool
 is_task_poll (TaskPollBegins i) = true
 is_task_poll _ = false
@@ -48,6 +52,7 @@ is_task_poll _ = false
 abbrev pub is_open_after : List Event → Bool
 is_open_after trace = nat_eq (how_often Completes trace) 0 && nat_eq (how_often Closes trace) 0
 
+-- each call that began has ended
 abbrev pub no_call_is_left : List Event → Type 0
 no_call_is_left trace = how_often CallBegins trace ≡ count is_call_end trace
 
@@ -55,6 +60,7 @@ no_call_is_left trace = how_often CallBegins trace ≡ count is_call_end trace
 abbrev pub runnable_exists : List Event → Bool
 runnable_exists trace = nat_lt (how_often TakenUp trace) (count is_made trace)
 
+-- a run or a Runnable's drop has begun, and has not ended
 abbrev pub is_unfinished : List Event → Bool
 is_unfinished trace = nat_lt (how_often RunEnded trace) (how_often TakenUp trace)
 
@@ -81,6 +87,7 @@ MayPoll FutureReady earlier = how_often FuturePollBegins earlier ≡ count is_fu
 MayPoll FutureDropped earlier = how_often FuturePollBegins earlier ≡ count is_future_answer earlier
 MayPoll _ earlier = Unit {0}
 
+-- one Runnable or run at a time, and no poll within another, or of a future that was ready, dropped or found closed
 pub record OnePoller (trace : List Event) : Type 0 where
   pub not_below : how_often RunEnded trace ≤ count is_made trace
   pub not_above : count is_made trace ≤ how_often RunEnded trace + 1
@@ -116,6 +123,7 @@ wake_is_due (Completes ∷ earlier) = false
 wake_is_due (Closes ∷ earlier) = false
 wake_is_due (_ ∷ earlier) = wake_is_due earlier
 
+-- a due wake has a Runnable, or a run or drop that is not over; where no call is left it has a Runnable
 pub record NoWakeLost (trace : List Event) : Type 0 where
   pub served : wake_is_due trace ≡ true → (runnable_exists trace || is_unfinished trace) ≡ true
   pub queued : wake_is_due trace ≡ true → no_call_is_left trace → runnable_exists trace ≡ true
@@ -143,6 +151,7 @@ MayAnswer (TaskPollEnds i IsClosed) earlier = 1 ≤ how_often FutureDropped earl
 MayAnswer (TaskPollEnds i HasOutput) earlier = 1 ≤ how_often FutureDropped earlier
 MayAnswer _ earlier = Unit {0}
 
+-- while the Task is there and no call is left, the awaiter of its last pending poll was woken, if the task has completed or dropped its future
 pub record NoAwaiterLost (trace : List Event) : Type 0 where
   pub woken : (i : ℕ) → no_call_is_left trace → how_often TaskGivenUp trace ≡ 0 → pending_poll trace ≡ Some i →
       (1 ≤ how_often Completes trace) ⊎ (1 ≤ how_often FutureDropped trace) → was_woken i trace ≡ true
@@ -162,11 +171,13 @@ abbrev pub is_fresh_after : List Event → Bool
 is_fresh_after earlier =
     is_open_after earlier && not (runnable_exists earlier) && not (is_unfinished earlier && woken_since_taking_up earlier)
 
+-- how many wakes were fresh
 abbrev pub fresh_wakes : List Event → ℕ
 fresh_wakes [] = 0
 fresh_wakes (WakeStep ∷ earlier) = bit (is_fresh_after earlier) + fresh_wakes earlier
 fresh_wakes (_ ∷ earlier) = fresh_wakes earlier
 
+-- a Runnable is made once by the spawn, once at most by each fresh wake, and once at most as the task is closed
 pub record MakingsCounted (trace : List Event) : Type 0 where
   pub by_spawn : how_often (Made BySpawn) trace ≡ 1
   pub by_wakes : how_often (Made ByWake) trace ≤ fresh_wakes trace

@@ -30,6 +30,7 @@ pub data Next : Type 0 where
 pub data Also : Type 0 where
   NothingElse ClosesIfOpen EndsClone : Also
 
+-- a line: when the act may be made, and what it does
 pub record Line : Type 0 where
   pub guard : Guard
   pub slots : SlotEdit
@@ -38,6 +39,7 @@ pub record Line : Type 0 where
   pub told : List Event
   pub also : Also
 
+-- whether a guard lets the party act in this scene
 abbrev pub holds : Scene → Guard → Bool
 holds s Always = true
 holds s IsClaimed = let w = s.word in not (w.completed && not w.closed)
@@ -48,6 +50,7 @@ holds s (MayGain r) = may_gain s r
 holds s (MayWake r) = may_wake s r
 holds s (MayDrop way) = may_drop way
 
+-- the slots after an edit
 abbrev pub edited : SlotEdit → Slots → Slots
 edited KeepsSlots slots = slots
 edited DropsFuture slots = record slots { future = false }
@@ -56,6 +59,7 @@ edited EndsOutput slots = record slots { output = false }
 edited EmptiesAwaiter slots = record slots { awaiter = None }
 edited (StoresAwaiter i) slots = record slots { awaiter = Some i }
 
+-- the position to which the party goes in this scene
 abbrev pub next_of : Scene → Next → Position
 next_of s (MovesTo p) = p
 next_of s (Notifies way) = notifies s.word.awaiter way
@@ -68,10 +72,12 @@ next_of s (LooksAgain i) = second_look s.word i
 next_of s (StoresOver i) = after_storing i s.slots.awaiter
 next_of s (Releases way) = Releaser s.slots.awaiter way
 
+-- the end of an awaiter's clone, where there was one
 abbrev pub ended_clone : Option ℕ → List Event
 ended_clone (Some i) = CloneEnded i ∷ []
 ended_clone None = []
 
+-- what is told in all
 abbrev pub told_of : Scene → Also → List Event → List Event
 told_of s NothingElse told = told
 told_of s ClosesIfOpen told = if s.word.closed then told else Closes ∷ told

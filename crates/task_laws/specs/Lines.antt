@@ -1,7 +1,7 @@
 -- 8 of 16: the lines of the table of moves: what a party at its position does by an act. What the act finds and writes is a row of task_core
 -- `src/table.rt`. Where there is no line, the party may not make that act.
 use Rattle.std.specs.Prelude.{true, false, ◌+◌, [], ◌∷◌, Option, Some, None}
-use Rattle.task_laws.specs.Event.{IsPending, IsClosed as AnswersClosed, IsRefused, HasOutput, Ran, ByWake, ByClosing, Nothing, Gained, Finished}
+use Rattle.task_laws.specs.Event.{IsRefused, HasOutput, Ran, ByWake, ByClosing, Nothing, Gained}
 use Rattle.task_laws.specs.Event.{FuturePollBegins, FuturePending, FutureReady, FutureDropped}
 use Rattle.task_laws.specs.Event.{OutputTaken, OutputDropped, Made, TakenUp, RunEnded, Completes, Closes, WakeStep, WakerGained, WakerGivenUp}
 use Rattle.task_laws.specs.Event.{CallBegins, TaskGivenUp}
@@ -19,11 +19,12 @@ use Rattle.task_laws.specs.Position.{BeginRegister, EndNotify, EndRegister, EndR
 use Rattle.task_laws.specs.Position.{AnswerReady, DropFuture, StoreOutput, DropOutput, HandOutOutput, CloneAwaiter, RefuseClone, StoreAwaiter}
 use Rattle.task_laws.specs.Position.{TakeAwaiter, WakeAwaiter, DropAwaiter, HandOver, EmptySlots, RefuseGain, EndCall}
 use Rattle.task_laws.specs.Onward.{after_taking, after_waking, after_giving_up, after_handing_over, notifies}
-use Rattle.task_laws.specs.Line.{Line, Always, IsClaimed, IsClosed, IsNotified, MayAsk, MayGain, MayWake, MayDrop, KeepsSlots, DropsFuture}
+use Rattle.task_laws.specs.Line.{Line, IsClaimed, IsClosed, IsNotified, MayAsk, MayGain, MayWake, MayDrop, DropsFuture}
 use Rattle.task_laws.specs.Line.{StoresOutput}
-use Rattle.task_laws.specs.Line.{EndsOutput, EmptiesAwaiter, StoresAwaiter, MovesTo, Notifies, EndsRun, EndsDetached, Delivers, Answers, LooksFirst}
-use Rattle.task_laws.specs.Line.{LooksAgain, StoresOver, Releases, NothingElse, ClosesIfOpen, EndsClone, moves_to, moves_on, adds, changes}
+use Rattle.task_laws.specs.Line.{EndsOutput, EmptiesAwaiter, StoresAwaiter, Notifies, EndsRun, EndsDetached, Delivers, Answers, LooksFirst}
+use Rattle.task_laws.specs.Line.{LooksAgain, StoresOver, Releases, ClosesIfOpen, EndsClone, moves_to, moves_on, adds, changes}
 
+-- the line of an act at a position; None where the party may not make it
 abbrev pub line : Act → Position → Option Line
 -- references
 line GainReference (At r) = Some (record (adds (CallEnding (Gained true) r) (At Waker) (WakerGained ∷ [])) { guard = MayGain r })

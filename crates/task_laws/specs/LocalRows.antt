@@ -26,25 +26,30 @@ abbrev pub tells_future : Option (Unit {0}) → List Event → List Event
 tells_future (Some future) told = FutureDropped ∷ told
 tells_future None told = told
 
+-- an output that was handed out is dropped
 abbrev pub tells_output : Option (Unit {0}) → List Event → List Event
 tells_output (Some output) told = OutputDropped ∷ told
 tells_output None told = told
 
+-- a Runnable is handed over
 abbrev pub tells_queue : Option Bool → List Event → List Event
 tells_queue (Some woken) told = HandedOver woken ∷ told
 tells_queue None told = told
 
+-- the cell is emptied, and a stored awaiter dropped
 abbrev pub tells_dropped : PlainEffect → List Event → List Event
 tells_dropped e told = if e.emptied then Empties ∷ ended e.dropped told else ended e.dropped told
 
+-- an awaiter is woken
 abbrev pub tells_wake : Option ℕ → List Event → List Event
 tells_wake (Some i) told = woken i told
 tells_wake None told = told
 
--- .. in the order of all calls but the drop of a Runnable, which wakes the awaiter before it gives its handle up
+-- all of it, in the order of all calls but the drop of a Runnable, which wakes the awaiter before it gives its handle up
 abbrev pub tells : PlainEffect → List Event
 tells e = tells_wake e.wake (tells_dropped e (tells_queue e.queue (tells_output e.output (tells_future e.future []))))
 
+-- all of it, in the order of a Runnable's drop
 abbrev pub tells_of_drop : PlainEffect → List Event
 tells_of_drop e = tells_dropped e (tells_wake e.wake (tells_future e.future []))
 
@@ -55,6 +60,7 @@ pub record Answers : Type 0 where
   pub third : Bool
   pub fourth : Bool
 
+-- these answers, the first one first
 abbrev pub in_order : Answers → List Bool
 in_order a = a.first ∷ (a.second ∷ (a.third ∷ (a.fourth ∷ [])))
 
@@ -62,6 +68,7 @@ in_order a = a.first ∷ (a.second ∷ (a.third ∷ (a.fourth ∷ [])))
 abbrev pub made_alone : ℕ → PlainTask → Call → Answers → SegmentEnd
 made_alone limit t call a = alone (begin limit (cell_of t) call) (in_order a)
 
+-- a call that is made alone after another
 abbrev pub after_another : ℕ → SegmentEnd → Call → Answers → SegmentEnd
 after_another limit l call a = let next = alone (begin limit l.cell call) (in_order a) in record next { told = next.told ++ l.told }
 
@@ -80,6 +87,7 @@ told_answer (answer.Ready None) = IsClosed
 told_answer answer.Pending = IsPending
 told_answer answer.Refused = IsRefused
 
+-- what a poll of the Task tells: what it hands out, and its answer
 abbrev pub tells_poll : ℕ → PlainAnswered → List Event
 tells_poll i r = answer_events i (told_answer r.answer) ++ tells r.effect
 

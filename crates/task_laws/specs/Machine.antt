@@ -10,6 +10,7 @@ abbrev pub how_many : (Position → Bool) → List Position → ℕ
 how_many p [] = 0
 how_many p (x ∷ xs) = bit (p x) + how_many p xs
 
+-- the task, all its parties, and what has happened, newest first
 pub record Machine : Type 0 where
   pub limit : ℕ
   pub word : State
@@ -27,6 +28,7 @@ opening limit = record {
   trace = Made BySpawn ∷ [];
 }
 
+-- who makes which act
 pub record Step : Type 0 where
   pub party : ℕ
   pub act : Act
@@ -36,6 +38,7 @@ abbrev pub begins : Position → List Event
 begins (At r) = CallBegins ∷ []
 begins _ = []
 
+-- what a party of the machine finds
 abbrev pub scene : Machine → Scene
 scene m = record { limit = m.limit; word = m.word; slots = m.slots }
 
@@ -50,6 +53,7 @@ after m i p (Some o) = Some (record {
   trace = o.told ++ (begins p ++ m.trace);
 })
 
+-- the machine after an act of a party that stands there
 abbrev pub moves : Machine → ℕ → Act → Option Position → Option Machine
 moves m i act None = None
 moves m i act (Some p) = after m i p (rule (scene m) act p)
@@ -64,5 +68,6 @@ run_from m [] = m
 run_from None (s ∷ steps) = None
 run_from (Some m) (s ∷ steps) = run_from (step m s) steps
 
+-- a list of steps from the spawn on
 abbrev pub run : ℕ → List Step → Option Machine
 run limit steps = run_from (Some (opening limit)) steps

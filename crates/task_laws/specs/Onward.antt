@@ -21,11 +21,12 @@ abbrev pub notifies : Bool → NotifyingCall → Position
 notifies true way = Notifier way
 notifies false way = after_taking None way
 
+-- a cancel whose Runnable was handed over takes the awaiter where AWAITER was found
 abbrev pub after_cancelling : Bool → ℕ → OnceDelivered
 after_cancelling true n = ThenNotifies n
 after_cancelling false n = ThenTask n
 
--- .. and once the Runnable was handed over
+-- the way on once the Runnable was handed over
 abbrev pub after_handing_over : OnceDelivered → Position
 after_handing_over (ThenEnds answer) = CallEnding answer Ended
 after_handing_over (ThenTask n) = CallEnding Nothing (Task n)
@@ -39,6 +40,7 @@ after_waking (OfCancel n) = CallEnding Nothing (Task n)
 after_waking (OfPoll n) = Answering n IsClosed
 after_waking (OfClaim n) = TookOutput n
 
+-- .. and once the reference was given up
 abbrev pub after_giving_up : Option ℕ → Answer → Position
 after_giving_up (Some i) answer = AwaiterInHand i OfRun
 after_giving_up None answer = CallEnding answer Ended

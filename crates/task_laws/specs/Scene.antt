@@ -24,6 +24,7 @@ pub record Outcome : Type 0 where
   pub born : List Position
   pub told : List Event
 
+-- what is left where the condition holds, and None elsewhere
 abbrev pub when : Bool → Outcome → Option Outcome
 when b o = if b then Some o else None
 

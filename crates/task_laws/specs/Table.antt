@@ -18,5 +18,6 @@ abbrev pub where_found : Bool → Option Outcome → Option Outcome
 where_found b None = None
 where_found b (Some o) = when b o
 
+-- what a party leaves by an act, on a word that the act's row fits; None where it may not make it
 abbrev pub rule : Scene → Act → Position → Option Outcome
 rule s act p = where_found (found s.limit act s.word) (outcome_at s (written act s.word) act p)

@@ -6,6 +6,7 @@ use Rattle.task_laws.specs.Machine.{Machine, Step, run, how_many}
 use Rattle.task_laws.specs.Holders.{is_waker, is_runner, owns_future, owns_output, owns_awaiter}
 use Rattle.task_laws.specs.Laws.{OnePoller, EachEndsOnce, NobodyIsLeft, AllEnded, NoWakeLost, NoAwaiterLost, MakingsCounted}
 
+-- all laws of one machine
 pub record Laws (m : Machine) : Type 0 where
   -- of what happened
   pub one_poller : OnePoller m.trace
@@ -21,6 +22,7 @@ pub record Laws (m : Machine) : Type 0 where
   pub future : how_many owns_future m.parties ≤ 1
   pub output : how_many owns_output m.parties ≤ 1
   pub awaiter : how_many owns_awaiter m.parties ≤ 1
+  pub never_both : m.slots.future ≡ true → m.slots.output ≡ false
   pub empty : NobodyIsLeft m.trace → m.slots ≡ record { future = false; output = false; awaiter = None }
 
 -- for every limit and every list of steps that is allowed

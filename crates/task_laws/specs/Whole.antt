@@ -75,6 +75,7 @@ says_yes CloneAwaiter = true
 says_yes WakeAwaiter = true
 says_yes _ = false
 
+-- the move of the abstract task that begins with this step
 abbrev pub move_of : Position → Act → Move
 move_of (At r) act = Begin (call_of r act)
 move_of p act = Go (says_yes act)
@@ -91,10 +92,12 @@ abbrev pub is_innermost : ℕ → List ℕ → Bool
 is_innermost i [] = false
 is_innermost i (j ∷ stack) = nat_eq i j
 
+-- a party between two calls
 abbrev pub is_at_rest : Position → Bool
 is_at_rest (At r) = true
 is_at_rest _ = false
 
+-- whether a whole run may go on by a step of this party
 abbrev pub may_step : Whole → ℕ → Position → Bool
 may_step w i p = if is_at_rest p then w.cut else is_innermost i w.stack
 
@@ -104,6 +107,7 @@ opened i (At r) WakeIdle born stack = i ∷ (born ∷ stack)
 opened i (At r) act born stack = i ∷ stack
 opened i p act born stack = stack
 
+-- a party that comes to rest takes its call off the stack
 abbrev pub closed : Position → List ℕ → List ℕ
 closed (At r) (i ∷ stack) = stack
 closed p stack = stack
@@ -123,19 +127,23 @@ abbrev pub is_cut : Act → Position → Machine → List ℕ → Bool
 is_cut act (At r) m stack = not (is_deliverer (innermost m stack))
 is_cut act p m stack = is_foreign act || asks_foreign p
 
+-- the whole run after a step of party p, which stands at q then
 abbrev pub after_step : Whole → Step → Position → Position → Machine → Whole
 after_step w s p q m =
     let stack = closed q (opened s.party p s.act (length w.machine.parties) w.stack) in
     record { machine = m; stack = stack; cut = is_cut s.act q m stack; moves = if w.cut then move_of p s.act ∷ w.moves else w.moves }
 
+-- the same, where the machine has that party
 abbrev pub at_next : Whole → Step → Position → Option Position → Machine → Option Whole
 at_next w s p None m = None
 at_next w s p (Some q) m = Some (after_step w s p q m)
 
+-- one step more; None where the machine or the whole run does not allow it
 abbrev pub stepped : Whole → Step → Option Position → Option Machine → Option Whole
 stepped w s (Some p) (Some m) = if may_step w s.party p then at_next w s p (slice_get m.parties s.party) m else None
 stepped w s p m = None
 
+-- a whole run, and a list of steps more
 abbrev pub whole_from : Option Whole → List Step → Option Whole
 whole_from w [] = w
 whole_from None (s ∷ steps) = None
@@ -174,11 +182,13 @@ phase_of parties trace =
     else (if nat_lt 0 (how_many is_polling parties) then (if woken_since_taking_up trace then PolledAndWoken else Polled)
     else (if nat_lt 0 (how_often Event.FutureDropped trace) then Done else Idle))
 
+-- the future is there, and no run has it
 abbrev pub is_home : Phase → Bool
 is_home Idle = true
 is_home Queued = true
 is_home _ = false
 
+-- a token where this is so
 abbrev pub one_if : Bool → Option (Unit {0})
 one_if true = Some tt
 one_if false = None
@@ -228,11 +238,13 @@ frame_of (Answering i answer) = Answers i answer
 -- never asked: at a cut an open call stands at one of these
 frame_of p = InPoll
 
+-- what is left of the call of a party that the stack names
 abbrev pub frame_at : Option Position → Frame
 frame_at (Some p) = frame_of p
 -- never asked: the stack names parties of the machine
 frame_at None = InPoll
 
+-- what is left of all open calls, innermost first
 abbrev pub frames : List (Position) → List ℕ → List Frame
 frames parties [] = []
 frames parties (i ∷ stack) = frame_at (slice_get parties i) ∷ frames parties stack
@@ -251,10 +263,12 @@ is_seen (CallEnds Nothing) = false
 is_seen (CallEnds answer) = true
 is_seen _ = false
 
+-- what of a trace a caller can see
 abbrev pub seen : List Event → List Event
 seen [] = []
 seen (e ∷ earlier) = if is_seen e then e ∷ seen earlier else seen earlier
 
+-- the abstract task that a whole run shows at a cut
 abbrev pub read : Whole → Abstract
 read w = record { cell = reading w.machine; frames = frames w.machine.parties w.stack; told = seen w.machine.trace }
 

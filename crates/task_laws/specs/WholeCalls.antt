@@ -19,10 +19,12 @@ abbrev pub made : List Bool → List Move → List Move
 made [] moves = moves
 made (answer ∷ answers) moves = made answers (Go answer ∷ moves)
 
+-- the call has not ended
 abbrev pub is_some : Option Frame → Bool
 is_some (Some f) = true
 is_some None = false
 
+-- whether the call asks for each of these answers
 abbrev pub takes_all : SegmentEnd → List Bool → Bool
 takes_all l [] = true
 takes_all l (answer ∷ answers) = is_some l.frame && takes_all (to_next l l.frame answer) answers

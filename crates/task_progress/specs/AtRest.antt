@@ -55,17 +55,18 @@ DueWakesArePolled =
     (limit : ℕ) (steps : List Step) (m : Machine) → run limit steps ≡ Some m → NoCallInProgress m → wake_is_due m.trace ≡ true
     → (how_many is_runnable m.parties ≡ 1) × PollsNext m
 
--- how many runs these steps start
+-- a run starts
 abbrev pub is_run_start : Act → Bool
 is_run_start StartRun = true
 is_run_start TakeUpClosed = true
 is_run_start _ = false
 
+-- how many runs these steps start
 abbrev pub runs_in : List Step → ℕ
 runs_in [] = 0
 runs_in (s ∷ steps) = bit (is_run_start s.act) + runs_in steps
 
--- Steps that lead to rest: the calls in progress end, and at most two runs follow.
+-- Steps that lead to rest, chosen with the answers of foreign code, also of a poll in progress: the calls in progress end, and at most two runs follow.
 pub record ComesToRest (m : Machine) : Type 0 where
   pub ending : CallsEnd m
   pub runs : List Step

@@ -23,6 +23,7 @@ distance ReadyFutureDropped = 2
 distance OutputStored = 1
 distance _ = 0
 
+-- whether a party carries a due wake
 abbrev pub carries : Position → Bool
 carries p = nat_lt 0 (distance p)
 
@@ -35,10 +36,12 @@ is_aside RefuseGain (At Runnable) = true
 is_aside EndCall (CallEnding answer Runnable) = true
 is_aside _ _ = false
 
+-- a run that has taken its Runnable up, and has not polled yet
 abbrev pub is_starting : Position → Bool
 is_starting Starting = true
 is_starting _ = false
 
+-- a poll of the future begins
 abbrev pub is_start_poll : Act → Bool
 is_start_poll StartPoll = true
 is_start_poll _ = false
@@ -66,6 +69,7 @@ abbrev pub is_carried : Option Position → Act → ℕ
 is_carried None act = 0
 is_carried (Some p) act = bit (carries p && not (is_aside act p))
 
+-- how many of these steps are such
 abbrev pub carried : Option Machine → List Step → ℕ
 carried None steps = 0
 carried (Some m) [] = 0

@@ -13,6 +13,7 @@ abbrev pub own_steps : ℕ → List Step → ℕ
 own_steps i [] = 0
 own_steps i (s ∷ steps) = bit (nat_eq s.party i) + own_steps i steps
 
+-- how many steps of party i write the word
 abbrev pub own_writes : ℕ → List Step → ℕ
 own_writes i [] = 0
 own_writes i (s ∷ steps) = (if nat_eq s.party i then bit (writes_word s.act) else 0) + own_writes i steps

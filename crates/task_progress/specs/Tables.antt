@@ -37,14 +37,17 @@ abbrev pub moves_by : Table → Machine → ℕ → Act → Option Position → 
 moves_by table m i act None = None
 moves_by table m i act (Some p) = after m i p (table (scene m) act p)
 
+-- one step by a table
 abbrev pub step_by : Table → Machine → Step → Option Machine
 step_by table m s = moves_by table m s.party s.act (slice_get m.parties s.party)
 
+-- a list of steps by a table
 abbrev pub run_from_by : Table → Option Machine → List Step → Option Machine
 run_from_by table m [] = m
 run_from_by table None (s ∷ steps) = None
 run_from_by table (Some m) (s ∷ steps) = run_from_by table (step_by table m s) steps
 
+-- the same from the spawn on
 abbrev pub run_by : Table → ℕ → List Step → Option Machine
 run_by table limit steps = run_from_by table (Some (opening limit)) steps
 

@@ -30,10 +30,10 @@ ghost use Rattle.task_laws.specs.Table.{rule};
 /// - While a wake is due, also while calls go on beginning, one party carries it: no step takes it further from a poll, and each of its own brings it
 ///   closer, but those that pass the Runnable on or take a waker of it (`wake_is_carried`). At most four such steps are made before a poll begins, or
 ///   the task is over (`wake_leads_to_poll`).
-/// - After every list of steps, the rest of the calls in progress and at most two runs more lead to rest, and a due wake to a poll, unless the task was
-///   over once those calls had ended (`comes_to_rest`). Once a run has started, calls that end lead to rest, or to a closed task
-///   (`run_leads_to_rest`). A closed task makes no Runnable more (`closed_makes_none`), and without one it is at rest whenever no call is in progress
-///   (`closed_leads_to_rest`).
+/// - After every list of steps, the rest of the calls in progress and at most two runs more can lead to rest, and a due wake to a poll, unless the task
+///   was over once those calls had ended (`comes_to_rest`); what foreign code answers is chosen, also of a poll in progress. Once a run has started,
+///   calls that end lead to rest, or to a closed task (`run_leads_to_rest`). A closed task makes no Runnable more (`closed_makes_none`), and without
+///   one it is at rest whenever no call is in progress (`closed_leads_to_rest`).
 /// - Where no call is in progress and no Runnable exists, an open task has a waker or its Task. One that is over has dropped its future once, has woken
 ///   the awaiter of a pending poll, and has ended its output, unless the Task may still claim it (`at_rest`).
 pub fn progress()

@@ -22,6 +22,7 @@ begun _ = 0
 abbrev pub slots_of : SlotsHeld → Slots
 slots_of s = record { future = s.future; output = s.output; awaiter = s.awaiter }
 
+-- what the code says that a party finds, as a scene of the table
 abbrev pub scene_of : SceneFound → Scene
 scene_of s = record { limit = s.limit; word = s.word; slots = slots_of s.slots }
 
@@ -30,6 +31,7 @@ abbrev pub untold : Option Outcome → Option Outcome
 untold None = None
 untold (Some o) = Some (record o { told = [] })
 
+-- what the code says that a party leaves, as an outcome of the table
 abbrev pub outcome_of : Effect → Outcome
 outcome_of left = record { word = left.word; slots = slots_of left.slots; next = left.next; born = listed left.added; told = [] }
 
@@ -40,9 +42,11 @@ pub record Standing : Type 0 where
   pub slots : Slots
   pub parties : List Position
 
+-- how this machine stands
 abbrev pub standing : Machine → Standing
 standing m = record { limit = m.limit; word = m.word; slots = m.slots; parties = m.parties }
 
+-- the same, where the steps to it were allowed
 abbrev pub stands : Option Machine → Option Standing
 stands None = None
 stands (Some m) = Some (standing m)

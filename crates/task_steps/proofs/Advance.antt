@@ -1,15 +1,14 @@
 -- What a step of a party owes: the interleaving, and the places that it takes and gives back.
-use Rattle.std.proofs.Common.{◌≡◌, ℕ, ◌+◌, ◌<◌, ◌≤◌, ◌≢◌, Bool, true, false, Some, List, ◌∷◌, length, get_or, set, sym, refl, ap, ◌∙◌, subst, ◌⊎◌, ⊎_elim, inr, arith, length-set}
+use Rattle.std.proofs.Common.{◌≡◌, ℕ, ◌+◌, ◌<◌, ◌≤◌, ◌≢◌, Bool, true, false, Option, Some, List, ◌∷◌, length, get_or, set, sym, refl, ap, ◌∙◌, subst, ◌⊎◌, ⊎_elim, inr, arith}
 use mathlib.Core.Option.{some, none, some-injective, some-ne-none}
 use mathlib.Core.Option as maybe
 use lib.ListN.{get_elem?}
-use Rattle.atomic_table.specs.Table.{State as Board, Me, Act as Move, keeps, takes, gives, chain, stepped, homes_after, carried_after, Valid, rest}
+use Rattle.atomic_table.specs.Table.{State as Board, Me, Act as Move, keeps, takes, gives, stepped, homes_after, carried_after, Valid, rest}
 use Rattle.atomic_table.proofs.Lists as lists
-use Rattle.task_steps.proofs.Vocabulary.{bit, number_of, is_open, Position, Act, Slots, Outcome, Machine, scene, how_many, owns_awaiter, Invariant, Slot, Deed, Member, View}
+use Rattle.task_steps.proofs.Vocabulary.{bit, number_of, is_open, Position, Act, Slots, Outcome, Machine, scene, how_many, owns_awaiter, Invariant, First, Second, Slot, Empty, TaskPlace, Deed, Member, View}
 use Rattle.task_steps.specs.PollScripts.{has_ended}
-use Rattle.task_steps.specs.Rule.{has_work, IsFuture, IsOutput, IsEmpty, Lies, Waits, AtHome, HomesAgree, RuleHolds}
-use Rattle.task_steps.specs.declared.table.Slot.TheVariants.{Empty, Future, Output, Awaiter}
-use Rattle.task_steps.specs.Steps.{future_first, output_first, TakesFuture, TakesOutput, Works, Awaits, Carries, Carried, saw_over, saw_closed, saw_ended}
+use Rattle.task_steps.specs.Rule.{has_work, IsFuture, IsOutput, Lies, Waits, WorkAtHome, AwaiterAtHome, HomesAgree, RuleHolds}
+use Rattle.task_steps.specs.Steps.{work_first, awaiter_first, TakesFuture, TakesOutput, Works, Awaits, Carries, Carried, saw_over, saw_closed, saw_ended}
 use Rattle.task_steps.proofs.Acts.{leads}
 
 -- the machine's slots of future and output are as they were
@@ -29,42 +28,42 @@ places_before m p = (has_work p, owns_awaiter p, m.slots, 0, 0)
 abbrev pub places_after : Outcome → PlacesSeen
 places_after o = (has_work o.next, owns_awaiter o.next, o.slots, how_many has_work o.born, how_many owns_awaiter o.born)
 
+-- nothing lies where the machine says so
+pub lies_nowhere : (F T : Type 0) (slots : Slots) → slots.future ≡ false → slots.output ≡ false → Lies {F = F} {T = T} slots.future slots.output Empty
+lies_nowhere F T slots e f = subst (λ (b : Bool × Bool). Lies {F = F} {T = T} b.0 b.1 Empty) (λ i. (sym e i, sym f i)) tt
+
+module _ {F T : Type 0} where
+  pub future_lies : (slots : Slots) (y : Slot F T) → slots.future ≡ true → IsFuture y → Lies slots.future slots.output y
+  future_lies slots y e is = subst (λ (b : Bool). Lies b slots.output y) (sym e) is
+
+  -- what lies there is what the machine says
+  is_future : (slots : Slots) (y : Slot F T) → slots.future ≡ true → Lies slots.future slots.output y → IsFuture y
+  is_future slots y e lies = subst (λ (b : Bool). Lies b slots.output y) e lies
+
+  is_output : (future output : Bool) (y : Slot F T) → (future ≡ true → output ≡ false) → output ≡ true → Lies future output y → IsOutput y
+  is_output true output y apart e lies = absurd (let gone = apart refl in cc)
+  is_output false true y apart e lies = lies
+  is_output false false y apart e lies = absurd (cc)
+
 module _ {F T A : Type 0} where
-  is_empty : (y : Slot F T A) → IsEmpty y → y ≡ Empty
-  is_empty Empty e = refl
-  is_empty (Future f) e = absurd e
-  is_empty (Output x) e = absurd e
-  is_empty (Awaiter a) e = absurd e
-
-  -- nothing lies where the machine says so
-  pub lies_nowhere : (Is : Slot F T A → Type 0) (b : Bool) → b ≡ false → Lies Is b Empty
-  lies_nowhere Is b e = subst (λ (v : Bool). Lies Is v Empty) (sym e) tt
-
-  pub lies_there : (Is : Slot F T A → Type 0) (b : Bool) (y : Slot F T A) → b ≡ true → Is y → Lies Is b y
-  lies_there Is b y e is = subst (λ (v : Bool). Lies Is v y) (sym e) is
-
-  -- the party has the places of future and output in front, with these values
-  abbrev pub HasBoth : Slot F T A → Slot F T A → List (ℕ × Slot F T A) → Type 0
-  HasBoth y z l = (l ≡ (0, y) ∷ (1, z) ∷ rest (rest l)) ⊎ (l ≡ (1, z) ∷ (0, y) ∷ rest (rest l))
-
   -- which places the party takes or gives back, and why it may
-  pub data Placing (m : Machine) (p : Position) (o : Outcome) (l : List (ℕ × Slot F T A)) : Type 0 where
+  pub data Placing (m : Machine) (p : Position) (o : Outcome) (l : List (ℕ × TaskPlace F T A)) : Type 0 where
     stays : has_work o.next ≡ has_work p → owns_awaiter o.next ≡ owns_awaiter p → (has_work p ≡ true) ⊎ SameWork m o → (owns_awaiter p ≡ true) ⊎ SameAwaiter m o → Placing m p o l
-    takes_future : has_work p ≡ false → has_work o.next ≡ true → owns_awaiter o.next ≡ owns_awaiter p → (owns_awaiter p ≡ true) ⊎ SameAwaiter m o → m.slots.future ≡ true → m.slots.output ≡ false → ((l' : List (ℕ × Slot F T A)) → TakesFuture l l' → Works o.next l l') → Placing m p o l
-    takes_output : has_work p ≡ false → has_work o.next ≡ true → owns_awaiter o.next ≡ owns_awaiter p → (owns_awaiter p ≡ true) ⊎ SameAwaiter m o → m.slots.future ≡ false → m.slots.output ≡ true → ((l' : List (ℕ × Slot F T A)) → TakesOutput l l' → Works o.next l l') → Placing m p o l
-    gives_work : (y z : Slot F T A) → has_work p ≡ true → has_work o.next ≡ false → owns_awaiter o.next ≡ owns_awaiter p → (owns_awaiter p ≡ true) ⊎ SameAwaiter m o → HasBoth y z l → Lies IsFuture o.slots.future y → Lies IsOutput o.slots.output z → Placing m p o l
-    takes_awaiter : owns_awaiter p ≡ false → owns_awaiter o.next ≡ true → has_work o.next ≡ has_work p → (has_work p ≡ true) ⊎ SameWork m o → ((y : Slot F T A) → Waits m.slots.awaiter y → Awaits o.next y) → Placing m p o l
-    gives_awaiter : (y : Slot F T A) → owns_awaiter p ≡ true → owns_awaiter o.next ≡ false → has_work o.next ≡ has_work p → (has_work p ≡ true) ⊎ SameWork m o → l ≡ (2, y) ∷ rest l → Waits o.slots.awaiter y → Placing m p o l
+    takes_future : has_work p ≡ false → has_work o.next ≡ true → owns_awaiter o.next ≡ owns_awaiter p → (owns_awaiter p ≡ true) ⊎ SameAwaiter m o → m.slots.future ≡ true → ((l' : List (ℕ × TaskPlace F T A)) → TakesFuture l l' → Works o.next l l') → Placing m p o l
+    takes_output : has_work p ≡ false → has_work o.next ≡ true → owns_awaiter o.next ≡ owns_awaiter p → (owns_awaiter p ≡ true) ⊎ SameAwaiter m o → m.slots.output ≡ true → ((l' : List (ℕ × TaskPlace F T A)) → TakesOutput l l' → Works o.next l l') → Placing m p o l
+    gives_work : (y : Slot F T) → has_work p ≡ true → has_work o.next ≡ false → owns_awaiter o.next ≡ owns_awaiter p → (owns_awaiter p ≡ true) ⊎ SameAwaiter m o → l ≡ work_first y (rest l) → Lies o.slots.future o.slots.output y → Placing m p o l
+    takes_awaiter : owns_awaiter p ≡ false → owns_awaiter o.next ≡ true → has_work o.next ≡ has_work p → (has_work p ≡ true) ⊎ SameWork m o → ((y : Option A) → Waits m.slots.awaiter y → Awaits o.next y) → Placing m p o l
+    gives_awaiter : (y : Option A) → owns_awaiter p ≡ true → owns_awaiter o.next ≡ false → has_work o.next ≡ has_work p → (has_work p ≡ true) ⊎ SameWork m o → l ≡ awaiter_first y (rest l) → Waits o.slots.awaiter y → Placing m p o l
 
   -- the step of a party at p that makes these acts, finds the machine so, and writes this number
-  pub record Steps (m : Machine) (p : Position) (acts : List Act) (new : ℕ) (l : List (ℕ × Slot F T A)) : Type 0 where
+  pub record Steps (m : Machine) (p : Position) (acts : List Act) (new : ℕ) (l : List (ℕ × TaskPlace F T A)) : Type 0 where
     pub outcome : Outcome
     pub leads_to : leads (scene m) acts p ≡ Some outcome
     pub writes : new ≡ number_of outcome.word
     pub idle : (how_many has_work outcome.born ≡ 0) × (how_many owns_awaiter outcome.born ≡ 0)
     pub placing : Placing m p outcome l
 
-  unfoldable pub keeps_places : {m : Machine} {p : Position} {acts : List Act} {new : ℕ} {l : List (ℕ × Slot F T A)} (o : Outcome) → leads (scene m) acts p ≡ Some o → new ≡ number_of o.word → places_after o ≡ places_before m p → Steps m p acts new l
+  unfoldable pub keeps_places : {m : Machine} {p : Position} {acts : List Act} {new : ℕ} {l : List (ℕ × TaskPlace F T A)} (o : Outcome) → leads (scene m) acts p ≡ Some o → new ≡ number_of o.word → places_after o ≡ places_before m p → Steps m p acts new l
   keeps_places o leads_to writes same = record {
     outcome = o;
     leads_to = leads_to;
@@ -87,10 +86,10 @@ pub record Finds (limit : ℕ) (p : Position) (ds : List Deed) (us : List Member
 
 module _ (F T A : Type 0) (limit : ℕ) where
   abbrev pub M : Type 0
-  M = Me (Slot F T A) View
+  M = Me (TaskPlace F T A) View
 
   abbrev pub B : Type 0
-  B = Board (Slot F T A) View
+  B = Board (TaskPlace F T A) View
 
   abbrev pub Rule : B → Type 0
   Rule = RuleHolds {F = F} {T = T} {A = A} limit
@@ -99,11 +98,11 @@ module _ (F T A : Type 0) (limit : ℕ) where
   now s = get_or s.words 0 0
 
   abbrev pub Result : B → ℕ → M → ℕ → (M → Type 0) → Type 0
-  Result s id me x then = (w : View) × (move : Move (Slot F T A)) × Valid s.homes me.1 move × Rule (stepped s 0 x id me.1 w move) × then (w, carried_after me.1 move)
+  Result s id me x then = (w : View) × (move : Move (TaskPlace F T A)) × Valid s.homes me.1 move × Rule (stepped s 0 x id me.1 w move) × then (w, carried_after me.1 move)
 
   -- the places after a step: what the machine says of them, whether the future was put in or not
-  pub record Places (b : Bool) (m : Machine) (p : Position) (o : Outcome) (s : B) (l : List (ℕ × Slot F T A)) (q : Machine) : Type 0 where
-    pub move : Move (Slot F T A)
+  pub record Places (b : Bool) (m : Machine) (p : Position) (o : Outcome) (s : B) (l : List (ℕ × TaskPlace F T A)) (q : Machine) : Type 0 where
+    pub move : Move (TaskPlace F T A)
     pub valid : Valid s.homes l move
     pub housed : HomesAgree b q (homes_after s.homes l move)
     pub still : has_work o.next ≡ has_work p → get_elem? (homes_after s.homes l move) 0 ≡ get_elem? s.homes 0
@@ -116,6 +115,7 @@ module _ (F T A : Type 0) (limit : ℕ) where
     pub here : bit (has_work p) ≤ how_many has_work m.parties
     pub here_too : bit (owns_awaiter p) ≤ how_many owns_awaiter m.parties
     pub slots_is : q.slots ≡ o.slots
+    pub never_both : m.slots.future ≡ true → m.slots.output ≡ false
     pub one_worker : how_many has_work q.parties ≤ 1
     pub one_owner : how_many owns_awaiter q.parties ≤ 1
 
@@ -125,24 +125,21 @@ module _ (F T A : Type 0) (limit : ℕ) where
   bit_is : (a b : Bool) → a ≡ b → bit a ≡ bit b
   bit_is a b e = ap bit e
 
-  -- the places of future and output are as they were
-  abbrev SameHomes : List (maybe.Option (Slot F T A)) → List (maybe.Option (Slot F T A)) → Type 0
-  SameHomes homes homes' = (get_elem? homes' 0 ≡ get_elem? homes 0) × (get_elem? homes' 1 ≡ get_elem? homes 1)
+  abbrev Homes : Type 0
+  Homes = List (maybe.Option (TaskPlace F T A))
 
   -- the work stays where it is
-  pub same_work : (b : Bool) (m : Machine) (p : Position) (o : Outcome) (q : Machine) (homes homes' : List (maybe.Option (Slot F T A))) → After m p o q → HomesAgree b m homes → has_work o.next ≡ has_work p → (has_work p ≡ true) ⊎ SameWork m o
-      → SameHomes homes homes' → how_many has_work q.parties ≡ 0 → (b ≡ true → AtHome homes' 0 (Lies IsFuture q.slots.future)) × AtHome homes' 1 (Lies IsOutput q.slots.output)
-  same_work b m p o q homes homes' a h e kept at nobody = ⊎_elim
+  pub same_work : (b : Bool) (m : Machine) (p : Position) (o : Outcome) (q : Machine) (homes homes' : Homes) → After m p o q → HomesAgree b m homes → has_work o.next ≡ has_work p → (has_work p ≡ true) ⊎ SameWork m o
+      → get_elem? homes' 0 ≡ get_elem? homes 0 → b ≡ true → how_many has_work q.parties ≡ 0 → WorkAtHome homes' (Lies q.slots.future q.slots.output)
+  same_work b m p o q homes homes' a h e kept at ready nobody = ⊎_elim
       (λ (z : has_work p ≡ true). absurd (let x = a.works in let y = a.here in let b = bit_is (has_work o.next) (has_work p) e in let c : bit (has_work p) ≡ 1 = ap bit z in omega arith))
       (λ (z : SameWork m o). let before : how_many has_work m.parties ≡ 0 = (let x = a.works in let b = bit_is (has_work o.next) (has_work p) e in omega arith) in
-      let x = h.output before in (
-        (λ ready. let y = h.future ready before in (y.0, at.0 ∙ y.1, subst (λ v. Lies IsFuture v y.0) (sym z.0 ∙ ap (λ x. x.future) (sym a.slots_is)) y.2)),
-        (x.0, at.1 ∙ x.1, subst (λ v. Lies IsOutput v x.0) (sym z.1 ∙ ap (λ x. x.output) (sym a.slots_is)) x.2),
-      ))
+      let y = h.work ready before in
+      (y.0, at ∙ y.1, subst (λ (x : Slots). Lies x.future x.output y.0) (sym a.slots_is) (subst (λ (x : Bool × Bool). Lies x.0 x.1 y.0) (λ i. (sym z.0 i, sym z.1 i)) y.2)))
       kept
 
-  pub same_awaiter : (b : Bool) (m : Machine) (p : Position) (o : Outcome) (q : Machine) (homes homes' : List (maybe.Option (Slot F T A))) → After m p o q → HomesAgree b m homes → owns_awaiter o.next ≡ owns_awaiter p → (owns_awaiter p ≡ true) ⊎ SameAwaiter m o
-      → get_elem? homes' 2 ≡ get_elem? homes 2 → how_many owns_awaiter q.parties ≡ 0 → AtHome homes' 2 (Waits q.slots.awaiter)
+  pub same_awaiter : (b : Bool) (m : Machine) (p : Position) (o : Outcome) (q : Machine) (homes homes' : Homes) → After m p o q → HomesAgree b m homes → owns_awaiter o.next ≡ owns_awaiter p → (owns_awaiter p ≡ true) ⊎ SameAwaiter m o
+      → get_elem? homes' 1 ≡ get_elem? homes 1 → how_many owns_awaiter q.parties ≡ 0 → AwaiterAtHome homes' (Waits q.slots.awaiter)
   same_awaiter b m p o q homes homes' a h e kept at nobody = ⊎_elim
       (λ (z : owns_awaiter p ≡ true). absurd (let x = a.owners in let y = a.here_too in let b = bit_is (owns_awaiter o.next) (owns_awaiter p) e in let c : bit (owns_awaiter p) ≡ 1 = ap bit z in omega arith))
       (λ (z : SameAwaiter m o). let before : how_many owns_awaiter m.parties ≡ 0 = (let x = a.owners in let b = bit_is (owns_awaiter o.next) (owns_awaiter p) e in omega arith) in
@@ -156,125 +153,95 @@ module _ (F T A : Type 0) (limit : ℕ) where
   busy_awaiter : (m : Machine) (p : Position) (o : Outcome) (q : Machine) → After m p o q → owns_awaiter p ≡ false → owns_awaiter o.next ≡ true → how_many owns_awaiter q.parties ≡ 1 + how_many owns_awaiter m.parties
   busy_awaiter m p o q a e f = let x = a.owners in let b : bit (owns_awaiter p) ≡ 0 = ap bit e in let c : bit (owns_awaiter o.next) ≡ 1 = ap bit f in omega arith
 
-  abbrev CarriesAt : Position → List (ℕ × Slot F T A) → List (ℕ × Slot F T A) → Bool → Bool → Bool → Bool → Type 0
+  abbrev CarriesAt : Position → List (ℕ × TaskPlace F T A) → List (ℕ × TaskPlace F T A) → Bool → Bool → Bool → Bool → Type 0
   CarriesAt q l l' a b c d = Carries {F = F} {T = T} {A = A} a b c d q l l'
 
-  carries_same : (a c : Bool) (q : Position) (l : List (ℕ × Slot F T A)) → CarriesAt q l l a a c c
+  carries_same : (a c : Bool) (q : Position) (l : List (ℕ × TaskPlace F T A)) → CarriesAt q l l a a c c
   carries_same true true q l = refl
   carries_same true false q l = refl
   carries_same false true q l = refl
   carries_same false false q l = refl
 
-  carries_awaiter : (a : Bool) (q : Position) (y : Slot F T A) (l : List (ℕ × Slot F T A)) → Awaits q y → CarriesAt q l ((2, y) ∷ l) a a false true
+  carries_awaiter : (a : Bool) (q : Position) (y : Option A) (l : List (ℕ × TaskPlace F T A)) → Awaits q y → CarriesAt q l (awaiter_first y l) a a false true
   carries_awaiter true q y l h = (y, h, refl)
   carries_awaiter false q y l h = (y, h, refl)
 
-  carries_back : (a : Bool) (q : Position) (l : List (ℕ × Slot F T A)) → CarriesAt q l (rest l) a a true false
+  carries_back : (a : Bool) (q : Position) (l : List (ℕ × TaskPlace F T A)) → CarriesAt q l (rest l) a a true false
   carries_back true q l = refl
   carries_back false q l = refl
 
-  put_at : (s : B) (l : List (ℕ × Slot F T A)) (k : ℕ) (y : Slot F T A) → l ≡ (k, y) ∷ rest l → k < length s.homes → get_elem? (homes_after s.homes l gives) k ≡ some (some y)
-  put_at s l k y e lt = subst (λ (c : List (ℕ × Slot F T A)). get_elem? (homes_after s.homes c gives) k ≡ some (some y)) (sym e) (lists.set_here s.homes k (some y) lt)
+  put_at : (s : B) (l : List (ℕ × TaskPlace F T A)) (k : ℕ) (y : TaskPlace F T A) → l ≡ (k, y) ∷ rest l → k < length s.homes → get_elem? (homes_after s.homes l gives) k ≡ some (some y)
+  put_at s l k y e lt = subst (λ (c : List (ℕ × TaskPlace F T A)). get_elem? (homes_after s.homes c gives) k ≡ some (some y)) (sym e) (lists.set_here s.homes k (some y) lt)
 
-  put_else : (s : B) (l : List (ℕ × Slot F T A)) (k j : ℕ) (y : Slot F T A) → l ≡ (k, y) ∷ rest l → j ≢ k → get_elem? (homes_after s.homes l gives) j ≡ get_elem? s.homes j
-  put_else s l k j y e ne = subst (λ (c : List (ℕ × Slot F T A)). get_elem? (homes_after s.homes c gives) j ≡ get_elem? s.homes j) (sym e) (lists.set_else s.homes k j (some y) ne)
+  put_else : (s : B) (l : List (ℕ × TaskPlace F T A)) (k j : ℕ) (y : TaskPlace F T A) → l ≡ (k, y) ∷ rest l → j ≢ k → get_elem? (homes_after s.homes l gives) j ≡ get_elem? s.homes j
+  put_else s l k j y e ne = subst (λ (c : List (ℕ × TaskPlace F T A)). get_elem? (homes_after s.homes c gives) j ≡ get_elem? s.homes j) (sym e) (lists.set_else s.homes k j (some y) ne)
 
-  carried_as : (p q : Position) (l l' : List (ℕ × Slot F T A)) (a b c d : Bool) → has_work p ≡ a → has_work q ≡ b → owns_awaiter p ≡ c → owns_awaiter q ≡ d → CarriesAt q l l' a b c d → Carried p q l l'
+  carried_as : (p q : Position) (l l' : List (ℕ × TaskPlace F T A)) (a b c d : Bool) → has_work p ≡ a → has_work q ≡ b → owns_awaiter p ≡ c → owns_awaiter q ≡ d → CarriesAt q l l' a b c d → Carried p q l l'
   carried_as p q l l' a b c d e f g h x = subst (λ (z : Bool × Bool × Bool × Bool). CarriesAt q l l' z.0 z.1 z.2 z.3) (λ i. (sym e i, sym f i, sym g i, sym h i)) x
 
-  -- two places change, and not this one
-  set_both_else : (homes : List (maybe.Option (Slot F T A))) (i j k : ℕ) (x y : maybe.Option (Slot F T A)) → k ≢ i → k ≢ j → get_elem? (set (set homes i x) j y) k ≡ get_elem? homes k
-  set_both_else homes i j k x y e f = lists.set_else (set homes i x) j k y f ∙ lists.set_else homes i k x e
-
-  -- the places of future and output are at home again, and that of the awaiter is as it was
-  abbrev GivesBoth : B → Slot F T A → Slot F T A → List (ℕ × Slot F T A) → Type 0
-  GivesBoth s y z l = let homes = homes_after s.homes l (chain gives gives) in (get_elem? homes 0 ≡ some (some y)) × (get_elem? homes 1 ≡ some (some z)) × (get_elem? homes 2 ≡ get_elem? s.homes 2)
-
-  gives_both : (s : B) (y z : Slot F T A) (l : List (ℕ × Slot F T A)) → length s.homes ≡ 3 → HasBoth y z l → GivesBoth s y z l
-  gives_both s y z l three has = ⊎_elim
-      (λ (e : l ≡ (0, y) ∷ (1, z) ∷ rest (rest l)). subst (λ (c : List (ℕ × Slot F T A)). GivesBoth s y z c) (sym e) (
-        lists.set_else (set s.homes 0 (some y)) 1 0 (some z) (λ z. omega arith) ∙ lists.set_here s.homes 0 (some y) (omega arith),
-        lists.set_here (set s.homes 0 (some y)) 1 (some z) (let n = length-set s.homes 0 (some y) in omega arith),
-        set_both_else s.homes 0 1 2 (some y) (some z) (λ z. omega arith) (λ z. omega arith),
-      ))
-      (λ (e : l ≡ (1, z) ∷ (0, y) ∷ rest (rest l)). subst (λ (c : List (ℕ × Slot F T A)). GivesBoth s y z c) (sym e) (
-        lists.set_here (set s.homes 1 (some z)) 0 (some y) (let n = length-set s.homes 1 (some z) in omega arith),
-        lists.set_else (set s.homes 1 (some z)) 0 1 (some y) (λ z. omega arith) ∙ lists.set_here s.homes 1 (some z) (omega arith),
-        set_both_else s.homes 1 0 2 (some z) (some y) (λ z. omega arith) (λ z. omega arith),
-      ))
-      has
-
-  pub places : (b : Bool) (m : Machine) (p : Position) (o : Outcome) (s : B) (l : List (ℕ × Slot F T A)) (q : Machine) → After m p o q → HomesAgree b m s.homes → (has_work p ≡ false → has_work o.next ≡ true → b ≡ true) → length s.homes ≡ 3
+  pub places : (b : Bool) (m : Machine) (p : Position) (o : Outcome) (s : B) (l : List (ℕ × TaskPlace F T A)) (q : Machine) → After m p o q → HomesAgree b m s.homes → (has_work p ≡ false → has_work o.next ≡ true → b ≡ true) → length s.homes ≡ 2
       → Placing m p o l → Places b m p o s l q
-  places b m p o s l q a h ready three (stays e f w z) = record {
+  places b m p o s l q a h ready two (stays e f w z) = record {
     move = keeps;
     valid = tt;
-    housed = record { future = λ f n. (same_work b m p o q s.homes s.homes a h e w (refl, refl) n).0 f; output = λ n. (same_work b m p o q s.homes s.homes a h e w (refl, refl) n).1; awaiter = λ n. same_awaiter b m p o q s.homes s.homes a h f z refl n };
+    housed = record { work = same_work b m p o q s.homes s.homes a h e w refl; awaiter = same_awaiter b m p o q s.homes s.homes a h f z refl };
     still = λ _. refl;
     carried = carried_as p o.next l l (has_work p) (has_work p) (owns_awaiter p) (owns_awaiter p) refl e refl f (carries_same (has_work p) (owns_awaiter p) o.next l);
   }
-  places b m p o s l q a h ready three (takes_future e f g w there gone is) = let busy = busy_work m p o q a e f in let free : how_many has_work m.parties ≡ 0 = (let n = a.one_worker in omega arith) in
-      let y = h.future (ready e f) free in let z = h.output free in let bare = is_empty z.0 (subst (λ v. Lies IsOutput v z.0) gone z.2) in record {
-        move = chain (takes 1 Empty) (takes 0 y.0);
-        valid = (z.1 ∙ ap (λ u. some (some u)) bare, lists.set_else s.homes 1 0 none (λ z. omega arith) ∙ y.1);
-        housed = record {
-          future = λ g n. absurd (omega arith);
-          output = λ n. absurd (omega arith);
-          awaiter = λ n. same_awaiter b m p o q s.homes (set (set s.homes 1 none) 0 none) a h g w (set_both_else s.homes 1 0 2 none none (λ z. omega arith) (λ z. omega arith)) n;
-        };
-        still = λ z. absurd (never (sym f ∙ z ∙ e));
-        carried = carried_as p o.next l (future_first y.0 l) false true (owns_awaiter p) (owns_awaiter p) e f refl g (is (future_first y.0 l) (y.0, subst (λ v. Lies IsFuture v y.0) there y.2, refl));
-      }
-  places b m p o s l q a h ready three (takes_output e f g w gone there is) = let busy = busy_work m p o q a e f in let free : how_many has_work m.parties ≡ 0 = (let n = a.one_worker in omega arith) in
-      let y = h.future (ready e f) free in let z = h.output free in let bare = is_empty y.0 (subst (λ v. Lies IsFuture v y.0) gone y.2) in record {
-        move = chain (takes 0 Empty) (takes 1 z.0);
-        valid = (y.1 ∙ ap (λ u. some (some u)) bare, lists.set_else s.homes 0 1 none (λ z. omega arith) ∙ z.1);
-        housed = record {
-          future = λ g n. absurd (omega arith);
-          output = λ n. absurd (omega arith);
-          awaiter = λ n. same_awaiter b m p o q s.homes (set (set s.homes 0 none) 1 none) a h g w (set_both_else s.homes 0 1 2 none none (λ z. omega arith) (λ z. omega arith)) n;
-        };
-        still = λ z. absurd (never (sym f ∙ z ∙ e));
-        carried = carried_as p o.next l (output_first z.0 l) false true (owns_awaiter p) (owns_awaiter p) e f refl g (is (output_first z.0 l) (z.0, subst (λ v. Lies IsOutput v z.0) there z.2, refl));
-      }
-  places b m p o s l q a h ready three (gives_work y z e f g w has future output) = let home = gives_both s y z l three has in record {
-    move = chain gives gives;
-    valid = (tt, tt);
-    housed = record {
-      future = λ f n. (y, home.0, subst (λ v. Lies IsFuture v y) (ap (λ x. x.future) (sym a.slots_is)) future);
-      output = λ n. (z, home.1, subst (λ v. Lies IsOutput v z) (ap (λ x. x.output) (sym a.slots_is)) output);
-      awaiter = λ n. same_awaiter b m p o q s.homes (homes_after s.homes l (chain gives gives)) a h g w home.2 n;
-    };
-    still = λ z. absurd (never (sym e ∙ sym z ∙ f));
-    carried = carried_as p o.next l (rest (rest l)) true false (owns_awaiter p) (owns_awaiter p) e f refl g refl;
-  }
-  places b m p o s l q a h ready three (takes_awaiter e f g w is) = let busy = busy_awaiter m p o q a e f in let y = h.awaiter (let n = a.one_owner in omega arith) in
-      let same : SameHomes s.homes (set s.homes 2 none) = (lists.set_else s.homes 2 0 none (λ z. omega arith), lists.set_else s.homes 2 1 none (λ z. omega arith)) in record {
-        move = takes 2 y.0;
+  places b m p o s l q a h ready two (takes_future e f g w there is) = let busy = busy_work m p o q a e f in
+      let y = h.work (ready e f) (let n = a.one_worker in omega arith) in record {
+        move = takes 0 (First y.0);
         valid = y.1;
         housed = record {
-          future = λ f n. (same_work b m p o q s.homes (set s.homes 2 none) a h g w same n).0 f;
-          output = λ n. (same_work b m p o q s.homes (set s.homes 2 none) a h g w same n).1;
-          awaiter = λ n. absurd (omega arith);
+          work = λ g n. absurd (omega arith);
+          awaiter = same_awaiter b m p o q s.homes (set s.homes 0 none) a h g w (lists.set_else s.homes 0 1 none (λ z. omega arith));
         };
-        still = λ _. lists.set_else s.homes 2 0 none (λ z. omega arith);
-        carried = carried_as p o.next l ((2, y.0) ∷ l) (has_work p) (has_work p) false true refl g e f (carries_awaiter (has_work p) o.next y.0 l (is y.0 y.2));
+        still = λ z. absurd (never (sym f ∙ z ∙ e));
+        carried = carried_as p o.next l (work_first y.0 l) false true (owns_awaiter p) (owns_awaiter p) e f refl g (is (work_first y.0 l) (y.0, is_future m.slots y.0 there y.2, refl));
       }
-  places b m p o s l q a h ready three (gives_awaiter y e f g w has waits) =
-      let same : SameHomes s.homes (homes_after s.homes l gives) = (put_else s l 2 0 y has (λ z. omega arith), put_else s l 2 1 y has (λ z. omega arith)) in record {
+  places b m p o s l q a h ready two (takes_output e f g w there is) = let busy = busy_work m p o q a e f in
+      let y = h.work (ready e f) (let n = a.one_worker in omega arith) in record {
+        move = takes 0 (First y.0);
+        valid = y.1;
+        housed = record {
+          work = λ g n. absurd (omega arith);
+          awaiter = same_awaiter b m p o q s.homes (set s.homes 0 none) a h g w (lists.set_else s.homes 0 1 none (λ z. omega arith));
+        };
+        still = λ z. absurd (never (sym f ∙ z ∙ e));
+        carried = carried_as p o.next l (work_first y.0 l) false true (owns_awaiter p) (owns_awaiter p) e f refl g (is (work_first y.0 l) (y.0, is_output m.slots.future m.slots.output y.0 a.never_both there y.2, refl));
+      }
+  places b m p o s l q a h ready two (gives_work y e f g w has lies) = record {
+    move = gives;
+    valid = tt;
+    housed = record {
+      work = λ f n. (y, put_at s l 0 (First y) has (omega arith), subst (λ (x : Slots). Lies x.future x.output y) (sym a.slots_is) lies);
+      awaiter = same_awaiter b m p o q s.homes (homes_after s.homes l gives) a h g w (put_else s l 0 1 (First y) has (λ z. omega arith));
+    };
+    still = λ z. absurd (never (sym e ∙ sym z ∙ f));
+    carried = carried_as p o.next l (rest l) true false (owns_awaiter p) (owns_awaiter p) e f refl g refl;
+  }
+  places b m p o s l q a h ready two (takes_awaiter e f g w is) = let busy = busy_awaiter m p o q a e f in let y = h.awaiter (let n = a.one_owner in omega arith) in
+      let same : get_elem? (set s.homes 1 none) 0 ≡ get_elem? s.homes 0 = lists.set_else s.homes 1 0 none (λ z. omega arith) in record {
+        move = takes 1 (Second y.0);
+        valid = y.1;
+        housed = record { work = same_work b m p o q s.homes (set s.homes 1 none) a h g w same; awaiter = λ n. absurd (omega arith) };
+        still = λ _. same;
+        carried = carried_as p o.next l (awaiter_first y.0 l) (has_work p) (has_work p) false true refl g e f (carries_awaiter (has_work p) o.next y.0 l (is y.0 y.2));
+      }
+  places b m p o s l q a h ready two (gives_awaiter y e f g w has waits) =
+      let same : get_elem? (homes_after s.homes l gives) 0 ≡ get_elem? s.homes 0 = put_else s l 1 0 (Second y) has (λ z. omega arith) in record {
         move = gives;
         valid = tt;
         housed = record {
-          future = λ f n. (same_work b m p o q s.homes (homes_after s.homes l gives) a h g w same n).0 f;
-          output = λ n. (same_work b m p o q s.homes (homes_after s.homes l gives) a h g w same n).1;
-          awaiter = λ n. (y, put_at s l 2 y has (omega arith), subst (λ x. Waits x y) (ap (λ x. x.awaiter) (sym a.slots_is)) waits);
+          work = same_work b m p o q s.homes (homes_after s.homes l gives) a h g w same;
+          awaiter = λ n. (y, put_at s l 1 (Second y) has (omega arith), subst (λ x. Waits x y) (ap (λ x. x.awaiter) (sym a.slots_is)) waits);
         };
-        still = λ _. put_else s l 2 0 y has (λ z. omega arith);
+        still = λ _. same;
         carried = carried_as p o.next l (rest l) (has_work p) (has_work p) true false refl g e f (carries_back (has_work p) o.next l);
       }
 
   -- a step that takes and gives back no place keeps all
-  pub stays_put : (b : Bool) (m : Machine) (p : Position) (o : Outcome) (s : B) (l : List (ℕ × Slot F T A)) (q : Machine) (a : After m p o q) (h : HomesAgree b m s.homes) (ready : has_work p ≡ false → has_work o.next ≡ true → b ≡ true) (three : length s.homes ≡ 3)
-      (e : has_work o.next ≡ has_work p) (f : owns_awaiter o.next ≡ owns_awaiter p) (w : (has_work p ≡ true) ⊎ SameWork m o) (z : (owns_awaiter p ≡ true) ⊎ SameAwaiter m o) → (places b m p o s l q a h ready three (stays e f w z)).move ≡ keeps
+  pub stays_put : (b : Bool) (m : Machine) (p : Position) (o : Outcome) (s : B) (l : List (ℕ × TaskPlace F T A)) (q : Machine) (a : After m p o q) (h : HomesAgree b m s.homes) (ready : has_work p ≡ false → has_work o.next ≡ true → b ≡ true) (two : length s.homes ≡ 2)
+      (e : has_work o.next ≡ has_work p) (f : owns_awaiter o.next ≡ owns_awaiter p) (w : (has_work p ≡ true) ⊎ SameWork m o) (z : (owns_awaiter p ≡ true) ⊎ SameAwaiter m o) → (places b m p o s l q a h ready two (stays e f w z)).move ≡ keeps
   unfolding places
-  stays_put b m p o s l q a h ready three e f w z = refl
+  stays_put b m p o s l q a h ready two e f w z = refl

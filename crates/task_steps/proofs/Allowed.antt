@@ -5,8 +5,8 @@ use mathlib.Core.Option as maybe
 use lib.ListN.{get_elem?}
 use Rattle.atomic_table.specs.Table.{State as Board, Me, Act as Move, keeps, stepped, homes_after, carried_after, Allows}
 use Rattle.atomic_table.proofs.Lists as lists
-use Rattle.task_steps.proofs.Vocabulary.{State, state_of, number_of, Position, At, Runnable, Act, Outcome, Machine, scene, how_many, owns_awaiter, state_of_number_of, laws_of, Slot, Deed, Tries, Member, Stage, Laid, Filling, Spawned, View}
-use Rattle.task_steps.specs.Rule.{member, trying, view, fresh, opening_at, Entry, Explains, has_work, AtHome, IsEmpty, Unfilled, Running, RuleHolds}
+use Rattle.task_steps.proofs.Vocabulary.{State, state_of, number_of, Position, At, Runnable, Act, Outcome, Machine, scene, how_many, owns_awaiter, state_of_number_of, laws_of, TaskPlace, Deed, Tries, Member, Stage, Laid, Filling, Spawned, View}
+use Rattle.task_steps.specs.Rule.{member, trying, view, fresh, opening_at, Entry, Explains, has_work, WorkAtHome, IsEmpty, Unfilled, Running, RuleHolds}
 use Rattle.task_steps.specs.Attempt.{Attempt, word_after, acts_on}
 use Rattle.task_steps.specs.Steps.{head_of, leaves_by, all_fit, noted, acted, next_of, born_of, Carried, Makes}
 use Rattle.task_steps.proofs.Explains.{inside}
@@ -18,10 +18,10 @@ use Rattle.task_steps.proofs.Advance.{Steps, keeps_places, places_before, places
 
 module _ (F T A : Type 0) (limit : ℕ) where
   abbrev M : Type 0
-  M = Me (Slot F T A) View
+  M = Me (TaskPlace F T A) View
 
   abbrev B : Type 0
-  B = Board (Slot F T A) View
+  B = Board (TaskPlace F T A) View
 
   abbrev Rule : B → Type 0
   Rule = RuleHolds {F = F} {T = T} {A = A} limit
@@ -33,21 +33,21 @@ module _ (F T A : Type 0) (limit : ℕ) where
   pub not_first : (s : B) (r : Running {F = F} {T = T} {A = A} limit s) (id : ℕ) (v : View) (l : ℕ) (ms : List Member) → get_elem? s.views id ≡ some v → v ≡ view l ms → r.filled ≡ false → id ≢ 0
   not_first s r id v l ms at is early z = let u = r.unfilled early in
       let stage : u.stage ≡ Spawned = ap (λ (w : View). w.stage) (some-injective (opening_at u.stage limit) v (sym u.first ∙ (ap (λ (k : ℕ). get_elem? s.views k) (sym z) ∙ at)) ∙ is) in
-      ⊎_elim (λ (x : (u.stage ≡ Laid) × AtHome s.homes 0 IsEmpty). let y = x.0 in cc) (λ (x : u.stage ≡ Filling). cc) u.place
+      ⊎_elim (λ (x : (u.stage ≡ Laid) × WorkAtHome s.homes IsEmpty). let y = x.0 in cc) (λ (x : u.stage ≡ Filling). cc) u.place
 
   -- .. so the opening seat stays as it was, and no place of it is touched
-  pub still_unfilled : (s : B) (r : Running {F = F} {T = T} {A = A} limit s) (words : List ℕ) (homes : List (maybe.Option (Slot F T A))) (views : List View) → (r.filled ≡ false → get_elem? views 0 ≡ get_elem? s.views 0)
+  pub still_unfilled : (s : B) (r : Running {F = F} {T = T} {A = A} limit s) (words : List ℕ) (homes : List (maybe.Option (TaskPlace F T A))) (views : List View) → (r.filled ≡ false → get_elem? views 0 ≡ get_elem? s.views 0)
       → (r.filled ≡ false → get_elem? homes 0 ≡ get_elem? s.homes 0) → r.filled ≡ false → Unfilled {F = F} {T = T} {A = A} limit record { words = words; homes = homes; views = views }
   still_unfilled s r words homes views same here early = let u = r.unfilled early in record {
     stage = u.stage;
     first = same early ∙ u.first;
-    place = ⊎_elim (λ (x : (u.stage ≡ Laid) × AtHome s.homes 0 IsEmpty). inl (x.0, (x.1.0, here early ∙ x.1.1, x.1.2))) (λ (x : u.stage ≡ Filling). inr x) u.place;
+    place = ⊎_elim (λ (x : (u.stage ≡ Laid) × WorkAtHome s.homes IsEmpty). inl (x.0, (x.1.0, here early ∙ x.1.1, x.1.2))) (λ (x : u.stage ≡ Filling). inr x) u.place;
   }
 
   pub set_apart : (views : List View) (id : ℕ) (w : View) → id ≢ 0 → get_elem? (set views id w) 0 ≡ get_elem? views 0
   set_apart views id w ne = lists.set_else views id 0 w (λ z. ne (sym z))
 
-  -- until then its Runnable waits, so nobody has the places of future and output
+  -- until then its Runnable waits, so nobody has place 0
   pub no_work : (views : List View) (log : List Entry) (m : Machine) (stage : Stage) → Explains limit views log m → get_elem? views 0 ≡ some (opening_at stage limit) → how_many has_work m.parties ≡ 0
   no_work views log m stage t first = let k = t.each 0 0 (opening_at stage limit) (fresh (At Runnable)) first refl in (queued m k.0 (law limit log m t.reaches) k.1.at).home
 
@@ -69,9 +69,9 @@ module _ (F T A : Type 0) (limit : ℕ) where
   finds s c r id v l p ds us at is = finds_trying s c r id v l p ds None us at is
 
   advance : (s : B) (c : limit < 36028797018963968) (r : Running limit s) (id : ℕ) (me : M) (l : ℕ) (p : Position) (ds : List Deed) (us : List Member) (acts : List Act) (new : ℕ)
-      → get_elem? s.views id ≡ some me.0 → me.0 ≡ view l (member p ds ∷ us) → length s.homes ≡ 3 → Steps r.machine p acts new me.1
+      → get_elem? s.views id ≡ some me.0 → me.0 ≡ view l (member p ds ∷ us) → length s.homes ≡ 2 → Steps r.machine p acts new me.1
       → Result F T A limit s id me new (Makes acts r.machine.word me)
-  advance s c r id me l p ds us acts new at is three x = let m : Machine = r.machine in let o : Outcome = x.outcome in let v : View = view l (member p ds ∷ us) in
+  advance s c r id me l p ds us acts new at is two x = let m : Machine = r.machine in let o : Outcome = x.outcome in let v : View = view l (member p ds ∷ us) in
       let lt = inside s.views id me.0 at in
       let t0 = subst (λ vs. Explains limit vs r.log m) (sym (ap (λ z. set s.views id z) (sym is) ∙ lists.set_again s.views id me.0 at)) r.told in
       let f = follows limit s.views id l acts p ds us r.log m o t0 lt x.leads_to in let q : Machine = f.machine in
@@ -82,6 +82,7 @@ module _ (F T A : Type 0) (limit : ℕ) where
         here = many_at has_work m.parties k.number p k.stands;
         here_too = many_at owns_awaiter m.parties k.number p k.stands;
         slots_is = f.slots_is;
+        never_both = (laws_of m k.invariant).never_both;
         one_worker = one_work q i;
         one_owner = (laws_of q i).awaiter;
       } in
@@ -90,7 +91,7 @@ module _ (F T A : Type 0) (limit : ℕ) where
       let idle : r.filled ≡ false → (has_work p ≡ false) × (has_work o.next ≡ false) = (λ early. let u = r.unfilled early in
       let before = no_work s.views r.log m u.stage r.told u.first in let after = no_work (set s.views id w) f.log q u.stage f.told (first early ∙ u.first) in
       (is_clear (has_work p) (let h = a.here in omega arith), is_clear (has_work o.next) (let h = a.works in omega arith))) in
-      let z = places F T A limit r.filled m p o s me.1 q a r.housed (ready r.filled (has_work o.next) (λ early. (idle early).1)) three x.placing in
+      let z = places F T A limit r.filled m p o s me.1 q a r.housed (ready r.filled (has_work o.next) (λ early. (idle early).1)) two x.placing in
       let limited = r.told.limited id 0 me.0 (member p ds) at (ap (λ (y : View). get_elem? y.members 0) is) in
       let same : l ≡ m.limit = sym (ap (λ (y : View). y.limit) is) ∙ (limited ∙ sym r.limited) in
       let left : leaves_by l m.word m.slots acts p ≡ Some o = subst (λ (n : ℕ). leaves_by n m.word m.slots acts p ≡ Some o) (sym same) (leads_leave m.limit m.word m.slots acts p o x.leads_to) in (
@@ -125,41 +126,41 @@ module _ (F T A : Type 0) (limit : ℕ) where
       ready false w clear e f = absurd (let g = clear refl in cc)
 
   -- private acts that keep the word and the places change the view alone
-  pub noted_only : (s : B) (c : limit < 36028797018963968) (r : Running limit s) (id : ℕ) (me : M) (l : ℕ) (p : Position) (ds : List Deed) (us : List Member) (acts : List Act) → get_elem? s.views id ≡ some me.0 → me.0 ≡ view l (member p ds ∷ us) → length s.homes ≡ 3
+  pub noted_only : (s : B) (c : limit < 36028797018963968) (r : Running limit s) (id : ℕ) (me : M) (l : ℕ) (p : Position) (ds : List Deed) (us : List Member) (acts : List Act) → get_elem? s.views id ≡ some me.0 → me.0 ≡ view l (member p ds ∷ us) → length s.homes ≡ 2
       → (o : Outcome) → leads (scene r.machine) acts p ≡ Some o → o.word ≡ r.machine.word → places_after o ≡ places_before r.machine p → (w : View) × Rule (stepped s 0 (now s) id me.1 w keeps) × Makes acts r.machine.word me (w, me.1)
   unfolding advance keeps_places
-  noted_only s c r id me l p ds us acts at is three o e kept same = let a = advance s c r id me l p ds us acts (now s) at is three (keeps_places o e (r.word_is ∙ ap number_of (sym kept)) same) in
+  noted_only s c r id me l p ds us acts at is two o e kept same = let a = advance s c r id me l p ds us acts (now s) at is two (keeps_places o e (r.word_is ∙ ap number_of (sym kept)) same) in
       let put : a.1 ≡ keeps = stays_put F T A limit _ _ _ _ _ _ _ _ _ _ _ _ _ _ _ in
-      (a.0, subst (λ (move : Move (Slot F T A)). Rule (stepped s 0 (now s) id me.1 a.0 move)) put a.3, subst (λ (move : Move (Slot F T A)). Makes acts r.machine.word me (a.0, carried_after me.1 move)) put a.4)
+      (a.0, subst (λ (move : Move (TaskPlace F T A)). Rule (stepped s 0 (now s) id me.1 a.0 move)) put a.3, subst (λ (move : Move (TaskPlace F T A)). Makes acts r.machine.word me (a.0, carried_after me.1 move)) put a.4)
 
   -- what the party at p owes that makes these acts by the word that it finds, and writes this number
-  abbrev pub Owes : (State → List Act) → (ℕ → ℕ) → Position → List Deed → List Member → List (ℕ × Slot F T A) → Type 0
+  abbrev pub Owes : (State → List Act) → (ℕ → ℕ) → Position → List Deed → List Member → List (ℕ × TaskPlace F T A) → Type 0
   Owes acts write p ds us held = (m : Machine) → Finds limit p ds us m → (n : ℕ) → n ≡ number_of m.word → n < 18446744073709551616 → Steps m p (acts m.word) (write n) held
 
   -- .. what it owes where the word that it finds ends its attempt
-  abbrev pub OwesEnd : {Row : Type 0} → Attempt Row → Position → List Deed → List Member → List (ℕ × Slot F T A) → Type 0
+  abbrev pub OwesEnd : {Row : Type 0} → Attempt Row → Position → List Deed → List Member → List (ℕ × TaskPlace F T A) → Type 0
   OwesEnd a p ds us held = (m : Machine) → Finds limit p ds us m → (n : ℕ) → n ≡ number_of m.word → n < 18446744073709551616 → a.ends limit m.word ≡ true → Steps m p (a.acts_at_end m.word) n held
 
   -- .. and where its change applies to that word
-  abbrev pub OwesChange : {Row : Type 0} → Attempt Row → Position → List Deed → List Member → List (ℕ × Slot F T A) → Type 0
+  abbrev pub OwesChange : {Row : Type 0} → Attempt Row → Position → List Deed → List Member → List (ℕ × TaskPlace F T A) → Type 0
   OwesChange a p ds us held = (m : Machine) → Finds limit p ds us m → a.applies limit m.word ≡ true → Steps m p (acts_on a m.word) (number_of (word_after m.word (acts_on a m.word))) held
 
   -- the word that the change writes on the one that was seen, where this is the machine's
-  pub makes_change : {Row : Type 0} (a : Attempt Row) (p : Position) (ds : List Deed) (us : List Member) (held : List (ℕ × Slot F T A)) → OwesChange a p ds us held
+  pub makes_change : {Row : Type 0} (a : Attempt Row) (p : Position) (ds : List Deed) (us : List Member) (held : List (ℕ × TaskPlace F T A)) → OwesChange a p ds us held
       → (w : State) → a.applies limit w ≡ true → (m : Machine) → Finds limit p ds us m → number_of w ≡ number_of m.word → Steps m p (acts_on a m.word) (number_of (word_after w (acts_on a w))) held
   makes_change a p ds us held owes w applied m f e = let same = same_word m.word w (number_of w) refl e in
       subst (λ (v : State). Steps m p (acts_on a m.word) (number_of (word_after v (acts_on a v))) held) same (owes m f (subst (λ (v : State). a.applies limit v ≡ true) (sym same) applied))
 
   pub result : (s : B) (id : ℕ) (me : M) (l : ℕ) (p : Position) (ds : List Deed) (us : List Member) (acts : State → List Act) (write : ℕ → ℕ) → Rule s
-      → get_elem? s.views id ≡ some me.0 → me.0 ≡ view l (member p ds ∷ us) → length s.homes ≡ 3 → now s < 18446744073709551616
+      → get_elem? s.views id ≡ some me.0 → me.0 ≡ view l (member p ds ∷ us) → length s.homes ≡ 2 → now s < 18446744073709551616
       → ((m : Machine) → Finds limit p ds us m → now s ≡ number_of m.word → Steps m p (acts m.word) (write (now s)) me.1)
       → Result F T A limit s id me (write (now s)) (Makes (acts (state_of (now s))) (state_of (now s)) me)
-  result s id me l p ds us acts write r at is three fits owes = let run = r.running in let m : Machine = run.machine in
+  result s id me l p ds us acts write r at is two fits owes = let run = r.running in let m : Machine = run.machine in
       let same : m.word ≡ state_of (now s) = sym (ap state_of run.word_is ∙ state_of_number_of m.word) in
       subst (λ (w : State). Result F T A limit s id me (write (now s)) (Makes (acts w) w me)) same
-      (advance s r.capped run id me l p ds us (acts m.word) (write (now s)) at is three (owes m (finds s r.capped run id me.0 l p ds us at is) run.word_is))
+      (advance s r.capped run id me l p ds us (acts m.word) (write (now s)) at is two (owes m (finds s r.capped run id me.0 l p ds us at is) run.word_is))
 
   -- a load, a fetch or a store
-  pub steps_always : (slots id : ℕ) (me : M) (l : ℕ) (p : Position) (ds : List Deed) (us : List Member) (acts : State → List Act) (write : ℕ → ℕ) → slots ≡ 3
+  pub steps_always : (slots id : ℕ) (me : M) (l : ℕ) (p : Position) (ds : List Deed) (us : List Member) (acts : State → List Act) (write : ℕ → ℕ) → slots ≡ 2
       → me.0 ≡ view l (member p ds ∷ us) → Owes acts write p ds us me.1 → Allows Rule slots id me 0 write (λ r m. Makes (acts (state_of r)) (state_of r) me m)
-  steps_always slots id me l p ds us acts write three is owes s r deep at fits = result s id me l p ds us acts write r at is (deep ∙ three) fits (λ m f e. owes m f (now s) e fits)
+  steps_always slots id me l p ds us acts write two is owes s r deep at fits = result s id me l p ds us acts write r at is (deep ∙ two) fits (λ m f e. owes m f (now s) e fits)

@@ -4,7 +4,7 @@ use mathlib.Core.Option.{none, some}
 use lib.ListN.{get_elem?}
 use Rattle.atomic_table.specs.Table.{State as Board, Me, keeps, step, homes_after, carried_after}
 use Rattle.atomic_table.proofs.Lists as lists
-use Rattle.task_steps.proofs.Vocabulary.{State, bit, state_of, number_of, state_of_number_of, Position, Act, Machine, Slot, Deed, Tries, Member, View}
+use Rattle.task_steps.proofs.Vocabulary.{State, bit, state_of, number_of, state_of_number_of, Position, Act, Machine, TaskPlace, Deed, Tries, Member, View}
 use Rattle.task_steps.specs.Rule.{view, member, trying, differ, Entry, Tried, Explains, RuleHolds}
 use Rattle.task_steps.specs.Steps.{Makes}
 use Rattle.task_steps.specs.Knows.{Knows}
@@ -38,10 +38,10 @@ same_words (x ∷ xs) = refl
 
 module _ (F T A : Type 0) (limit : ℕ) where
   abbrev M : Type 0
-  M = Me (Slot F T A) View
+  M = Me (TaskPlace F T A) View
 
   abbrev B : Type 0
-  B = Board (Slot F T A) View
+  B = Board (TaskPlace F T A) View
 
   abbrev Rule : B → Type 0
   Rule = RuleHolds {F = F} {T = T} {A = A} limit
@@ -62,16 +62,16 @@ module _ (F T A : Type 0) (limit : ℕ) where
       (λ early. set_apart F T A limit s.views id w (not_first F T A limit s r id v l (trying p ds t ∷ us) at refl early))
       (λ j y ne e. ⊎_elim (λ (h : (j ≡ id) × (w ≡ y)). ap (λ (u : View). u.stage) (sym h.1)) (λ (h : (j ≢ id) × (get_elem? s.views j ≡ some y)). r.staged j y ne h.1) (lists.at_set s.views id j w y e))
 
-  made_alike : (acts : List Act) (w : State) (l : ℕ) (p : Position) (ds : List Deed) (t : Option Tries) (us : List Member) (held : List (ℕ × Slot F T A)) (m : M) → Makes acts w (view l (member p ds ∷ us), held) m → Makes acts w (view l (trying p ds t ∷ us), held) m
+  made_alike : (acts : List Act) (w : State) (l : ℕ) (p : Position) (ds : List Deed) (t : Option Tries) (us : List Member) (held : List (ℕ × TaskPlace F T A)) (m : M) → Makes acts w (view l (member p ds ∷ us), held) m → Makes acts w (view l (trying p ds t ∷ us), held) m
   made_alike acts w l p ds t us held m x = record { slots = x.slots; fits = x.fits; viewed = x.viewed; carried = x.carried }
 
   -- a step of a party is allowed whatever it has seen
-  acts_having_seen : (s : B) (id : ℕ) (l : ℕ) (p : Position) (ds : List Deed) (t : Option Tries) (us : List Member) (held : List (ℕ × Slot F T A)) (acts : State → List Act) (write : ℕ → ℕ) → Rule s
-      → get_elem? s.views id ≡ some (view l (trying p ds t ∷ us)) → length s.homes ≡ 3 → now s < 18446744073709551616
+  acts_having_seen : (s : B) (id : ℕ) (l : ℕ) (p : Position) (ds : List Deed) (t : Option Tries) (us : List Member) (held : List (ℕ × TaskPlace F T A)) (acts : State → List Act) (write : ℕ → ℕ) → Rule s
+      → get_elem? s.views id ≡ some (view l (trying p ds t ∷ us)) → length s.homes ≡ 2 → now s < 18446744073709551616
       → ((m : Machine) → Finds limit p ds us m → now s ≡ number_of m.word → Steps m p (acts m.word) (write (now s)) held)
       → Result F T A limit s id (view l (trying p ds t ∷ us), held) (write (now s)) (Makes (acts (state_of (now s))) (state_of (now s)) (view l (trying p ds t ∷ us), held))
-  acts_having_seen s id l p ds t us held acts write c at three fits owes = let v : View = view l (trying p ds t ∷ us) in let quiet : View = view l (member p ds ∷ us) in
-      let o = result F T A limit (viewing s id quiet) id (quiet, held) l p ds us acts write (reseen s id l p ds t None us c at (λ k h. tt)) (lists.set_here s.views id quiet (inside s.views id v at)) refl three fits owes in (
+  acts_having_seen s id l p ds t us held acts write c at two fits owes = let v : View = view l (trying p ds t ∷ us) in let quiet : View = view l (member p ds ∷ us) in
+      let o = result F T A limit (viewing s id quiet) id (quiet, held) l p ds us acts write (reseen s id l p ds t None us c at (λ k h. tt)) (lists.set_here s.views id quiet (inside s.views id v at)) refl two fits owes in (
         o.0,
         o.1,
         o.2,
@@ -80,20 +80,20 @@ module _ (F T A : Type 0) (limit : ℕ) where
       )
 
   -- a party that only sees the word
-  sees : (s : B) (id : ℕ) (l : ℕ) (p : Position) (ds : List Deed) (t new : Option Tries) (us : List Member) (held : List (ℕ × Slot F T A)) (c : Rule s) → get_elem? s.views id ≡ some (view l (trying p ds t ∷ us))
+  sees : (s : B) (id : ℕ) (l : ℕ) (p : Position) (ds : List Deed) (t new : Option Tries) (us : List Member) (held : List (ℕ × TaskPlace F T A)) (c : Rule s) → get_elem? s.views id ≡ some (view l (trying p ds t ∷ us))
       → ((k : ℕ) → Tried k c.running.log c.running.machine.word t → Tried k c.running.log c.running.machine.word new)
       → Result F T A limit s id (view l (trying p ds t ∷ us), held) (now s) (λ m. m ≡ (view l (trying p ds new ∷ us), held))
   sees s id l p ds t new us held c at shows = let w : View = view l (trying p ds new ∷ us) in
       (w, keeps, tt, subst (λ (ws : List ℕ). Rule record { words = ws; homes = s.homes; views = set s.views id w }) (sym (same_words s.words)) (reseen s id l p ds t new us c at shows), refl)
 
   -- what an attempt owes: its change where it finds the word that it names, and its end
-  pub may_try : {Row : Type 0} (slots id l : ℕ) (p : Position) (ds : List Deed) (us : List Member) (held : List (ℕ × Slot F T A)) (a : Attempt Row) → slots ≡ 3 → OwesChange F T A limit a p ds us held → ((w : State) → a.ends l w ≡ a.ends limit w)
+  pub may_try : {Row : Type 0} (slots id l : ℕ) (p : Position) (ds : List Deed) (us : List Member) (held : List (ℕ × TaskPlace F T A)) (a : Attempt Row) → slots ≡ 2 → OwesChange F T A limit a p ds us held → ((w : State) → a.ends l w ≡ a.ends limit w)
       → OwesEnd F T A limit a p ds us held → MayTry limit slots id (view l (member p ds ∷ us), held) a
-  may_try slots id l p ds us held a three changes same over = record {
-    loads = λ t s c deep at fits. observe t s c (deep ∙ three) at fits (a.ends l (state_of (now s))) refl;
+  may_try slots id l p ds us held a two changes same over = record {
+    loads = λ t s c deep at fits. observe t s c (deep ∙ two) at fits (a.ends l (state_of (now s))) refl;
     exchanges = λ t w applied names s c deep at fits. let v = word_after w (acts_on a w) in lists.exchanged (now s) (number_of w) (number_of v)
         (λ x. Result F T A limit s id (view l (trying p ds t ∷ us), held) x (attempted a (step slots 0 (number_of w) (number_of v) none) (view l (trying p ds t ∷ us), held) (now s)))
-        (λ hit. let o = acts_having_seen s id l p ds t us held (acts_on a) (λ n. number_of v) c at (deep ∙ three) fits (λ m f e. makes_change F T A limit a p ds us held changes w applied m f (sym hit ∙ e)) in (o.0, o.1, o.2, o.3, ((λ _. o.4), (λ no. absurd (no hit)), knows t s c at)))
+        (λ hit. let o = acts_having_seen s id l p ds t us held (acts_on a) (λ n. number_of v) c at (deep ∙ two) fits (λ m f e. makes_change F T A limit a p ds us held changes w applied m f (sym hit ∙ e)) in (o.0, o.1, o.2, o.3, ((λ _. o.4), (λ no. absurd (no hit)), knows t s c at)))
         (λ miss. let o = sees s id l p ds t (missed (state_of (now s)) t) us held c at (λ k h. subst (λ (x : State). Tried k c.running.log c.running.machine.word (missed x t)) (stands s c)
         (tried_miss k c.running.log w c.running.machine.word t names (λ e. miss (c.running.word_is ∙ sym e)) h)) in (o.0, o.1, o.2, o.3, ((λ hit. absurd (miss hit)), (λ _. o.4), knows t s c at)));
   }
@@ -107,7 +107,7 @@ module _ (F T A : Type 0) (limit : ℕ) where
       differs : {P : Type 0} (x : Bool) → x ≡ true → x ≡ false → P
       differs x e f = absurd (cc)
 
-      observe : (t : Option Tries) (s : B) (c : Rule s) → length s.homes ≡ 3 → get_elem? s.views id ≡ some (view l (trying p ds t ∷ us)) → now s < 18446744073709551616 → (b : Bool) → a.ends l (state_of (now s)) ≡ b
+      observe : (t : Option Tries) (s : B) (c : Rule s) → length s.homes ≡ 2 → get_elem? s.views id ≡ some (view l (trying p ds t ∷ us)) → now s < 18446744073709551616 → (b : Bool) → a.ends l (state_of (now s)) ≡ b
           → Result F T A limit s id (view l (trying p ds t ∷ us), held) (now s) (observed a (step slots 0 0 0 none) (view l (trying p ds t ∷ us), held) (now s))
       observe t s c deep at fits true is = let o = acts_having_seen s id l p ds t us held a.acts_at_end (λ n. n) c at deep fits (λ m f e. over m f (now s) e fits (sym (same m.word) ∙ (ap (a.ends l) (sym (state_of_number_of m.word) ∙ ap state_of (sym e)) ∙ is))) in
           (o.0, o.1, o.2, o.3, ((λ _. o.4), (λ no. differs (a.ends l (state_of (now s))) is no), knows t s c at))
@@ -116,5 +116,5 @@ module _ (F T A : Type 0) (limit : ℕ) where
           (o.0, o.1, o.2, o.3, ((λ yes. differs (a.ends l (state_of (now s))) yes is), (λ _. o.4), knows t s c at))
 
   -- an attempt that no word ends
-  pub never_ends : {Row : Type 0} (a : Attempt Row) (p : Position) (ds : List Deed) (us : List Member) (held : List (ℕ × Slot F T A)) → ((w : State) → a.ends limit w ≡ false) → OwesEnd F T A limit a p ds us held
+  pub never_ends : {Row : Type 0} (a : Attempt Row) (p : Position) (ds : List Deed) (us : List Member) (held : List (ℕ × TaskPlace F T A)) → ((w : State) → a.ends limit w ≡ false) → OwesEnd F T A limit a p ds us held
   never_ends a p ds us held goes_on m f n e lt over = absurd (let no = goes_on m.word in cc)

@@ -1,6 +1,6 @@
 -- What acts in a row leave, computed by the table, and whether it allows them: an obligation names no outcome.
 use Rattle.std.proofs.Common.{◌≡◌, ℕ, Bool, true, false, ◌&&◌, Option, Some, None, List, [], ◌∷◌, ◌++◌, refl, sym, ap, ◌∙◌, arith}
-use Rattle.task_steps.proofs.Vocabulary.{how_many, owns_awaiter, State, number_of, found, written, Position, Act, Scene, Outcome, when, where_found, leaves_slots, Machine, scene, Slot}
+use Rattle.task_steps.proofs.Vocabulary.{how_many, owns_awaiter, State, number_of, found, written, Position, Act, Scene, Outcome, when, where_found, leaves_slots, Machine, scene, TaskPlace}
 use Rattle.task_laws.specs.Line.{Line, holds, edited, next_of, told_of, leaves}
 use Rattle.task_laws.specs.Lines.{line}
 use Rattle.task_steps.specs.Rule.{has_work}
@@ -59,7 +59,7 @@ word_total : (m : Machine) (p : Position) (acts : List Act) → may (scene m) ac
 word_total m p acts allowed = ap number_of (sym (leads_word (scene m) acts p (total (scene m) acts p) (leads_total (scene m) acts p allowed)))
 
 -- a step of acts that the table allows, by the places that the party takes or gives back
-pub by_table : {F T A : Type 0} (m : Machine) {p : Position} {acts : List Act} {new : ℕ} {l : List (ℕ × Slot F T A)} → may (scene m) acts p ≡ true → new ≡ number_of (word_after m.word acts)
+pub by_table : {F T A : Type 0} (m : Machine) {p : Position} {acts : List Act} {new : ℕ} {l : List (ℕ × TaskPlace F T A)} → may (scene m) acts p ≡ true → new ≡ number_of (word_after m.word acts)
     → (how_many has_work (total (scene m) acts p).born ≡ 0) × (how_many owns_awaiter (total (scene m) acts p).born ≡ 0) → Placing m p (total (scene m) acts p) l → Steps m p acts new l
 by_table m {p} {acts} allowed writes idle placing = record {
   outcome = total (scene m) acts p;
@@ -70,7 +70,7 @@ by_table m {p} {acts} allowed writes idle placing = record {
 }
 
 -- .. that leave the places as they are
-pub computed : {F T A : Type 0} (m : Machine) {p : Position} {acts : List Act} {new : ℕ} {l : List (ℕ × Slot F T A)} → may (scene m) acts p ≡ true → new ≡ number_of (word_after m.word acts)
+pub computed : {F T A : Type 0} (m : Machine) {p : Position} {acts : List Act} {new : ℕ} {l : List (ℕ × TaskPlace F T A)} → may (scene m) acts p ≡ true → new ≡ number_of (word_after m.word acts)
     → places_after (total (scene m) acts p) ≡ places_before m p → Steps m p acts new l
 computed m {p} {acts} allowed writes same = keeps_places (total (scene m) acts p) (leads_total (scene m) acts p allowed) (writes ∙ word_total m p acts allowed) same
 

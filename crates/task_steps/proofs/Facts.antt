@@ -79,16 +79,15 @@ pub record Queued (m : Machine) : Type 0 where
   pub scheduled : m.word.scheduled ≡ true
   pub running : m.word.running ≡ false
   pub future : m.slots.future ≡ true
-  pub output : m.slots.output ≡ false
   pub home : how_many has_work m.parties ≡ 0
 
 queued_facts : (limit : ℕ) (w : State) (slots : Slots) (t : List Event) (c : Census) → Holds limit w slots t c → 1 ≤ c.queued
-    → (w.scheduled ≡ true) × (w.running ≡ false) × (slots.future ≡ true) × (slots.output ≡ false) × (runs c + closers c + c.outputs + c.claims ≡ 0)
-queued_facts limit w slots t c h q = (grind arith, grind arith, grind arith, grind arith, grind arith)
+    → (w.scheduled ≡ true) × (w.running ≡ false) × (slots.future ≡ true) × (runs c + closers c + c.outputs + c.claims ≡ 0)
+queued_facts limit w slots t c h q = (grind arith, grind arith, grind arith, grind arith)
 
 pub queued : (m : Machine) (k : ℕ) → Invariant m → get_elem? m.parties k ≡ some (At Runnable) → Queued m
 queued m k i at = let f = queued_facts m.limit m.word m.slots m.trace (census m.parties) i.holds (counted (λ c. c.queued) (λ a b. refl) m.parties k (At Runnable) at) in
-    record { scheduled = f.0; running = f.1; future = f.2; output = f.3; home = omega (arith, works m.parties, f.4) }
+    record { scheduled = f.0; running = f.1; future = f.2; home = omega (arith, works m.parties, f.3) }
 
 -- what a row finds
 pub allowed : (g h : Bool) (o : Outcome) → g ≡ true → h ≡ true → where_found g (when h o) ≡ Some o
@@ -99,6 +98,6 @@ allowed false h o e f = cc
 few_works : (limit : ℕ) (w : State) (slots : Slots) (t : List Event) (c : Census) → Holds limit w slots t c → runs c + closers c + c.outputs + c.claims ≤ 1
 few_works limit w slots t c h = grind arith
 
--- one party at most has the places of future and output
+-- one party at most has place 0
 pub one_work : (m : Machine) → Invariant m → how_many has_work m.parties ≤ 1
 one_work m i = omega (arith, works m.parties, few_works m.limit m.word m.slots m.trace (census m.parties) i.holds)

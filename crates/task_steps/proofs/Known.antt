@@ -3,7 +3,7 @@ use Rattle.std.proofs.Common.{◌≡◌, ℕ, ◌<◌, Option, None, List, ◌�
 use mathlib.Core.Option.{some}
 use lib.ListN.{get_elem?}
 use Rattle.atomic_table.specs.Table.{State as Board, Me, Allows}
-use Rattle.task_steps.proofs.Vocabulary.{State, state_of, Position, Act, Machine, state_of_number_of, Slot, Deed, Member, View, Tries}
+use Rattle.task_steps.proofs.Vocabulary.{State, state_of, Position, Act, Machine, state_of_number_of, TaskPlace, Deed, Member, View, Tries}
 use Rattle.task_steps.specs.Rule.{member, trying, view, Running, RuleHolds}
 use Rattle.task_steps.specs.Steps.{head_of, Makes}
 use Rattle.task_steps.specs.Knows.{Knows}
@@ -20,10 +20,10 @@ OwesNote limit acts p ds us = (m : Machine) → Finds limit p ds us m → Keeps 
 
 module _ (F T A : Type 0) (limit : ℕ) where
   abbrev M : Type 0
-  M = Me (Slot F T A) View
+  M = Me (TaskPlace F T A) View
 
   abbrev B : Type 0
-  B = Board (Slot F T A) View
+  B = Board (TaskPlace F T A) View
 
   -- what the first party of a seat knows of the word that stands
   knows : (s : B) (r : Running {F = F} {T = T} {A = A} limit s) (id : ℕ) (v : View) (l : ℕ) (p : Position) (ds : List Deed) (t : Option Tries) (us : List Member) → limit < 36028797018963968
@@ -42,16 +42,16 @@ module _ (F T A : Type 0) (limit : ℕ) where
       subst (λ (z : State × List Deed). Knows z.1 z.0) (λ i. (same i, sym (ap (λ (w : View). (head_of w.members).deeds) is) i)) (knows s run id me.0 l p ds t us r.capped at is)
 
   -- a load, a fetch or a store that tells it
-  pub steps_knowing : (slots id : ℕ) (me : M) (l : ℕ) (p : Position) (ds : List Deed) (us : List Member) (acts : State → List Act) (write : ℕ → ℕ) → slots ≡ 3
+  pub steps_knowing : (slots id : ℕ) (me : M) (l : ℕ) (p : Position) (ds : List Deed) (us : List Member) (acts : State → List Act) (write : ℕ → ℕ) → slots ≡ 2
       → me.0 ≡ view l (member p ds ∷ us) → Owes F T A limit acts write p ds us me.1
       → Allows (RuleHolds {F = F} {T = T} {A = A} limit) slots id me 0 write (λ r m. Makes (acts (state_of r)) (state_of r) me m × Knows (head_of me.0.members).deeds (state_of r))
-  steps_knowing slots id me l p ds us acts write three is owes s r deep at fits = let o = steps_always F T A limit slots id me l p ds us acts write three is owes s r deep at fits in
+  steps_knowing slots id me l p ds us acts write two is owes s r deep at fits = let o = steps_always F T A limit slots id me l p ds us acts write two is owes s r deep at fits in
       (o.0, o.1, o.2, o.3, (o.4, knows_now s id me l p ds None us is r at))
 
   -- a party may note its private acts without a step
   pub may_note : (id : ℕ) (me : M) (l : ℕ) (p : Position) (ds : List Deed) (us : List Member) (acts : List Act) → me.0 ≡ view l (member p ds ∷ us) → OwesNote limit acts p ds us
       → Notes (RuleHolds {F = F} {T = T} {A = A} limit) id me (λ n m. Makes acts (state_of n) me m × Knows (head_of me.0.members).deeds (state_of n))
-  may_note id me l p ds us acts is owes s r three at fits = let run = r.running in let f = finds F T A limit s r.capped run id me.0 l p ds us at is in let n = owes run.machine f in
-      let a = noted_only F T A limit s r.capped run id me l p ds us acts at is three n.outcome n.leads_to n.word_is n.places_are in
+  may_note id me l p ds us acts is owes s r two at fits = let run = r.running in let f = finds F T A limit s r.capped run id me.0 l p ds us at is in let n = owes run.machine f in
+      let a = noted_only F T A limit s r.capped run id me l p ds us acts at is two n.outcome n.leads_to n.word_is n.places_are in
       let same : run.machine.word ≡ state_of (get_or s.words 0 0) = sym (ap state_of run.word_is ∙ state_of_number_of run.machine.word) in
       (a.0, a.1, (subst (λ (w : State). Makes acts w me (a.0, me.1)) same a.2, knows_now s id me l p ds None us is r at))

@@ -1,9 +1,9 @@
 -- The rule of a table that was just made: the machine stands at its opening, and the future is still to be put in.
-use Rattle.std.proofs.Common.{◌≡◌, ℕ, zero, suc, ◌<◌, ◌≢◌, false, List, [], ◌∷◌, sym, refl, ap, ◌∙◌, subst, inl, arith}
+use Rattle.std.proofs.Common.{◌≡◌, ℕ, zero, suc, ◌<◌, ◌≢◌, false, None, List, [], ◌∷◌, sym, refl, ap, ◌∙◌, subst, inl, arith}
 use mathlib.Core.Option.{some, some-injective, some-ne-none}
 use lib.ListN.{get_elem?}
 use Rattle.atomic_table.specs.Table.{opening}
-use Rattle.task_steps.proofs.Vocabulary.{At, Runnable, Task, Slot, Empty, Member, Laid, View}
+use Rattle.task_steps.proofs.Vocabulary.{At, Runnable, Task, First, Second, TaskPlace, Empty, Member, Laid, View}
 use Rattle.task_laws.specs.Machine.{opening as opening_machine}
 use Rattle.task_steps.specs.Rule.{fresh, laid_view, lender, DidLast, Tried, Explains, RuleHolds}
 use Rattle.task_steps.proofs.Explains.{did_nothing}
@@ -26,9 +26,9 @@ laid_told limit = record {
     stands (suc (suc n)) u e = absurd (some-ne-none u (sym e))
 
 module _ (F T A : Type 0) (limit : ℕ) where
-  -- three empty places, and the opening word
-  pub laid : (xs : List (Slot F T A)) → limit < 36028797018963968 → xs ≡ Empty ∷ Empty ∷ Empty ∷ [] → RuleHolds {F = F} {T = T} {A = A} limit (opening (273 ∷ []) xs (laid_view limit))
-  laid xs capped are = subst (λ (l : List (Slot F T A)). RuleHolds {F = F} {T = T} {A = A} limit (opening (273 ∷ []) l (laid_view limit))) (sym are) (record {
+  -- two empty places, and the opening word
+  pub laid : (xs : List (TaskPlace F T A)) → limit < 36028797018963968 → xs ≡ First Empty ∷ Second None ∷ [] → RuleHolds {F = F} {T = T} {A = A} limit (opening (273 ∷ []) xs (laid_view limit))
+  laid xs capped are = subst (λ (l : List (TaskPlace F T A)). RuleHolds {F = F} {T = T} {A = A} limit (opening (273 ∷ []) l (laid_view limit))) (sym are) (record {
     capped = capped;
     running = record {
       log = [];
@@ -38,7 +38,7 @@ module _ (F T A : Type 0) (limit : ℕ) where
       told = laid_told limit;
       wide = refl;
       word_is = refl;
-      housed = record { future = λ e. absurd (cc); output = λ n. (Empty, refl, tt); awaiter = λ n. (Empty, refl, tt) };
+      housed = record { work = λ e. absurd (cc); awaiter = λ n. (None, refl, tt) };
       unfilled = λ e. record { stage = Laid; first = refl; place = inl (refl, (Empty, refl, tt)) };
       staged = λ seat v apart f. absurd (apart refl (just (laid_view limit) seat v f).0);
     };

@@ -1,10 +1,10 @@
 -- A seat comes to the table with a waker that is lent to it.
-use Rattle.std.proofs.Common.{◌≡◌, ℕ, ◌+◌, ◌<◌, subst, Bool, List, [], ◌∷◌, ◌++◌, length, sym, refl, ap, ◌∙◌, ⊎_elim, arith}
+use Rattle.std.proofs.Common.{◌≡◌, ℕ, ◌+◌, subst, Bool, List, [], ◌∷◌, ◌++◌, length, sym, refl, ap, ◌∙◌, ⊎_elim, arith}
 use mathlib.Core.Option.{some}
 use lib.ListN.{get_elem?}
 use Rattle.atomic_table.specs.Table.{State as Board, Me, Enters}
 use Rattle.atomic_table.proofs.Lists.{at_longer}
-use Rattle.task_steps.proofs.Vocabulary.{CallEnds, Nothing, At, Lent, Look, Outcome, leaves_slots, Machine, scene, owns_awaiter, Slot, View, State, state_of, state_of_number_of}
+use Rattle.task_steps.proofs.Vocabulary.{CallEnds, Nothing, At, Lent, Look, Outcome, leaves_slots, Machine, scene, owns_awaiter, TaskPlace, View, state_of, state_of_number_of}
 use Rattle.task_steps.specs.Rule.{deed, view, fresh, found_by, opening_at, lender, has_work, HomesAgree, RuleHolds}
 use Rattle.task_steps.proofs.Explains.{next_machine, at_append, joined_by}
 use Rattle.task_steps.proofs.Facts.{law, low, many_next}
@@ -17,19 +17,18 @@ lent_by m = leaves_slots (scene m) m.word (At Lent) (At Lent ∷ []) (CallEnds N
 
 module _ (F T A : Type 0) (limit : ℕ) where
   abbrev B : Type 0
-  B = Board (Slot F T A) View
+  B = Board (TaskPlace F T A) View
 
   abbrev Rule : B → Type 0
   Rule = RuleHolds {F = F} {T = T} {A = A} limit
 
-  abbrev came : View → Me (Slot F T A) View
+  abbrev came : View → Me (TaskPlace F T A) View
   came w = (w, [])
 
   -- no place changes
   still_housed : (b : Bool) (m : Machine) (homes : List _) → get_elem? m.parties lender ≡ some (At Lent) → HomesAgree {F = F} {T = T} {A = A} b m homes → HomesAgree {F = F} {T = T} {A = A} b (next_machine m lender (At Lent) (lent_by m)) homes
   still_housed b m homes lent h = let works = many_next has_work m.parties lender (At Lent) (At Lent) (At Lent ∷ []) lent in let owners = many_next owns_awaiter m.parties lender (At Lent) (At Lent) (At Lent ∷ []) lent in record {
-    future = λ f n. h.future f (omega arith);
-    output = λ n. h.output (omega arith);
+    work = λ f n. h.work f (omega arith);
     awaiter = λ n. h.awaiter (omega arith);
   }
 

@@ -18,9 +18,11 @@ pub mod AwaiterOwed
 pub mod RunOwed
 pub mod Known
 pub mod Attempts
+pub mod Still
 pub mod Shares
 pub mod TaskOwed
 pub mod Handles
 pub mod PollOwed
 pub mod WakerOwed
 pub mod WakerSeats
+pub mod Witnessed

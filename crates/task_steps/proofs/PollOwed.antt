@@ -5,9 +5,9 @@ use Rattle.atomic_table.specs.Table.{rest}
 use Rattle.task_steps.proofs.Vocabulary.{State, state_of, number_of, found, written, Event, TaskPollBegins, TaskPollEnds, Closes, PollAnswer, IsPending, Position, OfPoll, OfClaim, At, Notifier, Looking, SawOutput, TookOutput}
 use Rattle.task_steps.proofs.Vocabulary.{RefuseClone, Answering, Registrar, UnusedClone, Registered, TookBack, CloneInHand, Task, Act, Look, ClaimOutput, EndCall, Slots, leaves_slots}
 use Rattle.task_steps.proofs.Vocabulary.{when, notifies, first_look, second_look, after_storing, Machine, scene, count, is_task_poll, owns_awaiter, Census, census, Awaiting, awaiting, HandshakeHolds, Holds, state_of_number_of}
-use Rattle.task_steps.proofs.Vocabulary.{DropAwaiter, WakeAwaiter, fetch_and-awaiter_registering_notifying, Invariant, Slot, Empty, Awaiter, Deed, Member}
-use Rattle.task_steps.specs.Rule.{has_work, IsFuture, IsEmpty, IsAwaiter, Waits}
-use Rattle.task_steps.specs.Steps.{and_then, spot, output_first, TakesOutput, Works, Awaits}
+use Rattle.task_steps.proofs.Vocabulary.{DropAwaiter, WakeAwaiter, fetch_and-awaiter_registering_notifying, Invariant, TaskPlace, Empty, Deed, Member}
+use Rattle.task_steps.specs.Rule.{has_work, Waits}
+use Rattle.task_steps.specs.Steps.{and_then, spot, work_first, awaiter_first, TakesOutput, Works, Awaits}
 use Rattle.task_steps.specs.PollScripts.{has_output, has_ended, has_to_wait, handing_out, ending_notified, to_look, to_look_again, to_begin_register, to_end_register}
 use Rattle.task_steps.proofs.Bools.{never}
 use Rattle.task_steps.proofs.Acts.{leads}
@@ -70,10 +70,6 @@ same_first l r s k x y e f = ap (value_or x) (sym e ∙ f)
 pub output_there : (limit : ℕ) (w : State) (slots : Slots) (t : List Event) (c : Census) → Holds limit w slots t c → has_output w ≡ true → slots.output ≡ true
 output_there limit w slots t c h e = grind arith
 
--- .. and the future is not
-pub future_left : (limit : ℕ) (w : State) (slots : Slots) (t : List Event) (c : Census) → Holds limit w slots t c → has_output w ≡ true → slots.future ≡ false
-future_left limit w slots t c h e = grind arith
-
 -- whoever has the output finds the future gone
 pub future_gone : (limit : ℕ) (w : State) (slots : Slots) (t : List Event) (c : Census) → Holds limit w slots t c → 1 ≤ c.claims → slots.future ≡ false
 future_gone limit w slots t c h e = grind arith
@@ -85,8 +81,8 @@ clone_stored : (i : ℕ) (w : State) (slots : Slots) (t : List Event) (b : Await
 clone_stored i w slots t b h e = ⊎_elim (λ (z : b.registered ≡ 0). absurd (omega arith)) (λ z. z) h.own
 
 -- a word that has the output
-pub output_lies : (m : Machine) → Invariant m → has_output m.word ≡ true → (m.slots.future ≡ false) × (m.slots.output ≡ true)
-output_lies m i e = (future_left m.limit m.word m.slots m.trace (census m.parties) i.holds e, output_there m.limit m.word m.slots m.trace (census m.parties) i.holds e)
+pub output_lies : (m : Machine) → Invariant m → has_output m.word ≡ true → m.slots.output ≡ true
+output_lies m i e = output_there m.limit m.word m.slots m.trace (census m.parties) i.holds e
 
 module _ (limit : ℕ) where
   pub ends_poll : (i : ℕ) (answer : PollAnswer) (ds : List Deed) (us : List Member) → OwesNote limit (EndCall ∷ []) (Answering i answer) ds us
@@ -99,46 +95,46 @@ module _ (limit : ℕ) where
   drops_clone i ds us m f = noted refl refl refl
 
   -- .. where the slot's awaiter tells that there was one
-  pub drops_stored : {F T A : Type 0} (i : ℕ) (hand : Option ℕ) (y : Slot F T A) (a : A) → Waits hand y → y ≡ Awaiter a → (ds : List Deed) (us : List Member) → OwesNote limit (DropAwaiter ∷ []) (after_storing i hand) ds us
-  drops_stored {F = F} {T = T} {A = A} i None y a h e ds us m f = absurd (subst (λ (x : Slot F T A). IsEmpty x) e h)
-  drops_stored i (Some old) y a h e ds us m f = noted refl refl refl
+  pub drops_stored : {A : Type 0} (i : ℕ) (hand : Option ℕ) (a : A) → Waits hand (Some a) → (ds : List Deed) (us : List Member) → OwesNote limit (DropAwaiter ∷ []) (after_storing i hand) ds us
+  drops_stored i None a h ds us m f = absurd h
+  drops_stored i (Some old) a h ds us m f = noted refl refl refl
 
   pub wakes_clone : (i : ℕ) (ds : List Deed) (us : List Member) → OwesNote limit (WakeAwaiter ∷ []) (CloneInHand i) ds us
   wakes_clone i ds us m f = noted refl refl refl
 
 module _ (F T A : Type 0) (limit : ℕ) where
-  pub looks : (n : ℕ) (ds : List Deed) (us : List Member) (l : List (ℕ × Slot F T A)) → OwesEnd F T A limit to_look (At (Task n)) ds us l
+  pub looks : (n : ℕ) (ds : List Deed) (us : List Member) (l : List (ℕ × TaskPlace F T A)) → OwesEnd F T A limit to_look (At (Task n)) ds us l
   looks n ds us l m f number x lt e = let f = first_free m.word (n + 1) in by_table m (guarded e) x (refl, refl)
       (stays f.0 f.1 (inr (refl, refl)) (inr refl))
 
-  looks_again_by : (m : Machine) (i number : ℕ) (l : List (ℕ × Slot F T A)) (b : Bool) → has_to_wait m.word ≡ b → number ≡ number_of m.word → Steps m (Looking i) (if b then Look ∷ EndCall ∷ [] else Look ∷ []) number l
+  looks_again_by : (m : Machine) (i number : ℕ) (l : List (ℕ × TaskPlace F T A)) (b : Bool) → has_to_wait m.word ≡ b → number ≡ number_of m.word → Steps m (Looking i) (if b then Look ∷ EndCall ∷ [] else Look ∷ []) number l
   looks_again_by m i number l true e x = keeps_places (leaves_slots (scene m) m.word (At (Task i)) [] (TaskPollEnds i IsPending ∷ []))
       (ap (λ (p : Position). and_then (Some (leaves_slots (scene m) m.word p [] [])) (λ o. leads (spot m.limit o.word o.slots) (EndCall ∷ []) o.next)) (has_waited m.word i e)) x refl
   looks_again_by m i number l false e x = let f = second_free m.word i in by_table m refl x (refl, refl) (stays f.0 f.1 (inr (refl, refl)) (inr refl))
 
-  pub looks_again : (i : ℕ) (ds : List Deed) (us : List Member) (l : List (ℕ × Slot F T A)) → OwesEnd F T A limit to_look_again (Looking i) ds us l
+  pub looks_again : (i : ℕ) (ds : List Deed) (us : List Member) (l : List (ℕ × TaskPlace F T A)) → OwesEnd F T A limit to_look_again (Looking i) ds us l
   looks_again i ds us l m f number x lt e = looks_again_by m i number l (has_to_wait m.word) refl x
 
-  claims_by : (m : Machine) (p : Position) (acts : List Act) (i : ℕ) (told : List Event) (l : List (ℕ × Slot F T A)) → Free p → has_output m.word ≡ true
+  claims_by : (m : Machine) (p : Position) (acts : List Act) (i : ℕ) (told : List Event) (l : List (ℕ × TaskPlace F T A)) → Free p → has_output m.word ≡ true
       → leads (scene m) acts p ≡ and_then (when (found 0 ClaimOutput m.word) (leaves_slots (scene m) (written ClaimOutput m.word) (notifies m.word.awaiter (OfClaim i)) [] told)) (λ o. leads (spot m.limit o.word o.slots) [] o.next)
-      → (m.slots.future ≡ false) × (m.slots.output ≡ true) → Steps m p acts (number_of (written ClaimOutput m.word)) l
+      → m.slots.output ≡ true → Steps m p acts (number_of (written ClaimOutput m.word)) l
   claims_by m p acts i told l free fit is there = let f = claim_works m.word.awaiter i in record {
     outcome = leaves_slots (scene m) (written ClaimOutput m.word) (notifies m.word.awaiter (OfClaim i)) [] told;
     leads_to = is ∙ ap (λ (b : Bool). and_then (when b (leaves_slots (scene m) (written ClaimOutput m.word) (notifies m.word.awaiter (OfClaim i)) [] told)) (λ o. leads (spot m.limit o.word o.slots) [] o.next)) fit;
     writes = refl;
     idle = (refl, refl);
-    placing = takes_output free.0 f.0 (f.1 ∙ sym free.1) (inr refl) there.0 there.1 (works m.word.awaiter);
+    placing = takes_output free.0 f.0 (f.1 ∙ sym free.1) (inr refl) there (works m.word.awaiter);
   }
     where
-      works : (b : Bool) (l' : List (ℕ × Slot F T A)) → TakesOutput l l' → Works (notifies b (OfClaim i)) l l'
+      works : (b : Bool) (l' : List (ℕ × TaskPlace F T A)) → TakesOutput l l' → Works (notifies b (OfClaim i)) l l'
       works true l' h = h
       works false l' h = h
 
-  pub hands_out : (i : ℕ) (ds : List Deed) (us : List Member) (l : List (ℕ × Slot F T A)) → l ≡ output_first Empty (rest (rest l)) → Owes F T A limit handing_out (λ n. n) (TookOutput i) ds us l
+  pub hands_out : (i : ℕ) (ds : List Deed) (us : List Member) (l : List (ℕ × TaskPlace F T A)) → l ≡ work_first Empty (rest l) → Owes F T A limit handing_out (λ n. n) (TookOutput i) ds us l
   hands_out i ds us l has m f number x lt = let none = future_gone m.limit m.word m.slots m.trace (census m.parties) f.invariant.holds (counted (λ c. c.claims) (λ a b. refl) m.parties f.number (TookOutput i) f.stands) in by_table m refl x (refl, refl)
-      (gives_work Empty Empty refl refl refl (inr refl) (inr has) (lies_nowhere IsFuture m.slots.future none) tt)
+      (gives_work Empty refl refl refl (inr refl) has (lies_nowhere F T (record (m.slots) { output = false }) none refl))
 
-  pub finds_notifier : (i : ℕ) (ds : List Deed) (us : List Member) (l : List (ℕ × Slot F T A)) → OwesEnd F T A limit to_begin_register (Registrar i) ds us l
+  pub finds_notifier : (i : ℕ) (ds : List Deed) (us : List Member) (l : List (ℕ × TaskPlace F T A)) → OwesEnd F T A limit to_begin_register (Registrar i) ds us l
   finds_notifier i ds us l m f number x lt e = computed m (row_fits e) x refl
 
   -- where the clone was put in, by what stood there
@@ -146,30 +142,30 @@ module _ (F T A : Type 0) (limit : ℕ) where
   stored_free i None = (refl, refl)
   stored_free i (Some old) = (refl, refl)
 
-  stored_awaits : (i : ℕ) (hand : Option ℕ) (y : Slot F T A) → Waits hand y → Awaits (after_storing i hand) y
+  stored_awaits : (i : ℕ) (hand : Option ℕ) (y : Option A) → Waits hand y → Awaits (after_storing i hand) y
   stored_awaits i None y h = h
   stored_awaits i (Some old) y h = h
 
-  pub begins_register : (i : ℕ) (ds : List Deed) (us : List Member) (l : List (ℕ × Slot F T A)) → OwesChange F T A limit to_begin_register (Registrar i) ds us l
+  pub begins_register : (i : ℕ) (ds : List Deed) (us : List Member) (l : List (ℕ × TaskPlace F T A)) → OwesChange F T A limit to_begin_register (Registrar i) ds us l
   begins_register i ds us l m f fit = let s = stored_free i m.slots.awaiter in by_table m (row_fits fit) refl (refl, refl) (takes_awaiter refl s.1 s.0 (inr (refl, refl)) (stored_awaits i m.slots.awaiter))
 
-  pub ends_register : (i : ℕ) (ds : List Deed) (us : List Member) (y : Slot F T A) (l : List (ℕ × Slot F T A)) → l ≡ (2, y) ∷ rest l → IsAwaiter y → OwesChange F T A limit to_end_register (Registered i) ds us l
-  ends_register i ds us y l has is m f fit = let stored = clone_stored i m.word m.slots m.trace (awaiting i m.parties) (f.invariant.shakes i) (counted_awaiting (λ b. b.registered) (λ a b. refl) i m.parties f.number (Registered i) f.stands) in by_table m (row_fits fit) refl (refl, refl)
-      (gives_awaiter y refl refl refl (inr (refl, refl)) has (subst (λ (hand : Option ℕ). Waits hand y) (sym stored) is))
+  pub ends_register : (i : ℕ) (ds : List Deed) (us : List Member) (a : A) (l : List (ℕ × TaskPlace F T A)) → l ≡ awaiter_first (Some a) (rest l) → OwesChange F T A limit to_end_register (Registered i) ds us l
+  ends_register i ds us a l has m f fit = let stored = clone_stored i m.word m.slots m.trace (awaiting i m.parties) (f.invariant.shakes i) (counted_awaiting (λ b. b.registered) (λ a b. refl) i m.parties f.number (Registered i) f.stands) in by_table m (row_fits fit) refl (refl, refl)
+      (gives_awaiter (Some a) refl refl refl (inr (refl, refl)) has (subst (λ (hand : Option ℕ). Waits hand (Some a)) (sym stored) tt))
 
   -- the clone is taken back while its place is still the poll's
-  pub takes_back : (i : ℕ) (ds : List Deed) (us : List Member) (l : List (ℕ × Slot F T A)) → OwesEnd F T A limit to_end_register (Registered i) ds us l
+  pub takes_back : (i : ℕ) (ds : List Deed) (us : List Member) (l : List (ℕ × TaskPlace F T A)) → OwesEnd F T A limit to_end_register (Registered i) ds us l
   takes_back i ds us l m f number x lt e = by_table m (guarded e) x (refl, refl) (stays refl refl (inr (refl, refl)) (inl refl))
 
-  pub ends_notified : (i : ℕ) (ds : List Deed) (us : List Member) (y : Slot F T A) (l : List (ℕ × Slot F T A)) → l ≡ (2, y) ∷ rest l → IsEmpty y → Owes F T A limit ending_notified (λ n. bit_and n 18446744073709551391) (TookBack i) ds us l
-  ends_notified i ds us y l has is m f n e lt = let t = was_taken_back i m.word m.slots m.trace (awaiting i m.parties) (f.invariant.shakes i) (counted_awaiting (λ b. b.takers_back) (λ a b. refl) i m.parties f.number (TookBack i) f.stands) in by_table m (row_fits t.0) (fetch_and-awaiter_registering_notifying n lt ∙ ap (λ (w : State). number_of (record w { awaiter = false; registering = false; notifying = false })) (ap state_of e ∙ state_of_number_of m.word)) (refl, refl)
-      (gives_awaiter y refl refl refl (inr (refl, refl)) has (subst (λ (hand : Option ℕ). Waits hand y) (sym t.1) is))
+  pub ends_notified : (i : ℕ) (ds : List Deed) (us : List Member) (l : List (ℕ × TaskPlace F T A)) → l ≡ awaiter_first None (rest l) → Owes F T A limit ending_notified (λ n. bit_and n 18446744073709551391) (TookBack i) ds us l
+  ends_notified i ds us l has m f n e lt = let t = was_taken_back i m.word m.slots m.trace (awaiting i m.parties) (f.invariant.shakes i) (counted_awaiting (λ b. b.takers_back) (λ a b. refl) i m.parties f.number (TookBack i) f.stands) in by_table m (row_fits t.0) (fetch_and-awaiter_registering_notifying n lt ∙ ap (λ (w : State). number_of (record w { awaiter = false; registering = false; notifying = false })) (ap state_of e ∙ state_of_number_of m.word)) (refl, refl)
+      (gives_awaiter None refl refl refl (inr (refl, refl)) has (subst (λ (hand : Option ℕ). Waits {A = A} hand None) (sym t.1) tt))
 
   -- the output is taken at once, or by a poll that has registered
-  pub claims : (n : ℕ) (ds : List Deed) (us : List Member) (l : List (ℕ × Slot F T A)) → OwesChange F T A limit to_look (At (Task n)) ds us l
+  pub claims : (n : ℕ) (ds : List Deed) (us : List Member) (l : List (ℕ × TaskPlace F T A)) → OwesChange F T A limit to_look (At (Task n)) ds us l
   claims n ds us l m f fit = claims_by m (At (Task n)) (ClaimOutput ∷ []) (n + 1) (Closes ∷ TaskPollBegins (n + 1) ∷ []) l (refl, refl) fit refl (output_lies m f.invariant fit)
 
-  pub claims_again : (i : ℕ) (ds : List Deed) (us : List Member) (l : List (ℕ × Slot F T A)) → OwesChange F T A limit to_look_again (Looking i) ds us l
+  pub claims_again : (i : ℕ) (ds : List Deed) (us : List Member) (l : List (ℕ × TaskPlace F T A)) → OwesChange F T A limit to_look_again (Looking i) ds us l
   claims_again i ds us l m f fit = claims_by m (Looking i) (Look ∷ ClaimOutput ∷ []) i (Closes ∷ []) l (refl, refl) fit
       (ap (λ (p : Position). and_then (Some (leaves_slots (scene m) m.word p [] [])) (λ o. leads (spot m.limit o.word o.slots) (ClaimOutput ∷ []) o.next)) (sees_output m.word i fit)
       ∙ again (found 0 ClaimOutput m.word))

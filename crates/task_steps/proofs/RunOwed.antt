@@ -3,19 +3,19 @@ use Rattle.std.proofs.Common.{◌≡◌, ℕ, ◌+◌, ◌-◌, ◌%◌, ◌^◌
 use Rattle.std.specs.Prelude.{bit_and, bit_or, nat_eq, nat_lt, if◌then◌else◌}
 use Rattle.std.proofs.lemmas.Bool.Decides.{nat_tests}
 use Rattle.atomic_table.specs.Table.{rest}
-use Rattle.task_steps.proofs.Vocabulary.{State, state_of, number_of, Event, FutureDropped, Completes, RunEnded, Answer, Runnable, OfRun}
-use Rattle.task_steps.proofs.Vocabulary.{At, GivingUp, Emptier, Polling, Pending, Ready, PendingFutureDropped, OutputInHand, GiveUpReference, GiveUpLastReference, DiscardOpen, DiscardClosed}
+use Rattle.task_steps.proofs.Vocabulary.{State, state_of, number_of, Event, Completes, RunEnded, Answer, Runnable, OfRun}
+use Rattle.task_steps.proofs.Vocabulary.{At, GivingUp, Emptier, Polling, Pending, ReadyFutureDropped, PendingFutureDropped, OutputInHand, GiveUpReference, GiveUpLastReference, DiscardOpen, DiscardClosed}
 use Rattle.task_steps.proofs.Vocabulary.{DropFuture, StoreOutput, Complete, CompleteDetached, AnswerPending, Act, written, Slots, notifies, after_giving_up}
-use Rattle.task_steps.proofs.Vocabulary.{owns_awaiter, Census, census, Holds, state_of_number_of, fetch_or-closed, fetch_sub-reference, fetch_and-scheduled_running, Slot, Empty, Deed, Member}
-use Rattle.task_steps.specs.Rule.{has_work, IsFuture, IsOutput}
-use Rattle.task_steps.specs.Steps.{future_first, output_first}
+use Rattle.task_steps.proofs.Vocabulary.{owns_awaiter, Census, census, Holds, state_of_number_of, fetch_or-closed, fetch_sub-reference, fetch_and-scheduled_running, Slot, TaskPlace, Empty, Deed, Member}
+use Rattle.task_steps.specs.Rule.{has_work, IsFuture, IsOutput, Lies}
+use Rattle.task_steps.specs.Steps.{work_first, awaiter_first}
 use Rattle.task_steps.specs.Scripts.{dropping_output}
 use Rattle.task_steps.specs.Attempt.{word_after}
 use Rattle.task_steps.specs.RunScripts.{giving_up, emptying, discarding, answering_ready, answering_pending, ending_pending, ending_closed, to_complete, to_end_pending}
 use Rattle.task_steps.specs.declared.run.PendingEnd.TheVariants.{Rescheduled, Idle, Orphaned}
 use Rattle.task_steps.proofs.Seen.{not_true}
 use Rattle.task_steps.proofs.Facts.{Queued, queued, counted}
-use Rattle.task_steps.proofs.Advance.{Placing, stays, takes_future, gives_work, lies_nowhere, lies_there, takes_awaiter, gives_awaiter, Steps}
+use Rattle.task_steps.proofs.Advance.{Placing, stays, takes_future, gives_work, lies_nowhere, future_lies, takes_awaiter, gives_awaiter, Steps}
 use Rattle.task_steps.proofs.Computed.{by_table, row_fits, guarded}
 use Rattle.task_steps.proofs.Allowed.{Owes, OwesChange, OwesEnd}
 
@@ -47,12 +47,16 @@ is_last n b e f = grind (arith, nat_tests)
 pub closed_already : (w : State) → w.closed ≡ true → record w { closed = true } ≡ w
 closed_already w e = λ i. record w { closed = sym e i }
 
--- a run has the only thing that is left of the work
-pending_facts : (limit : ℕ) (w : State) (slots : Slots) (t : List Event) (c : Census) → Holds limit w slots t c → 1 ≤ c.pending → (1 ≤ w.references) × (slots.output ≡ false) × (slots.future ≡ true)
-pending_facts limit w slots t c h e = (grind arith, grind arith, grind arith)
+-- a pending run has the future
+pending_facts : (limit : ℕ) (w : State) (slots : Slots) (t : List Event) (c : Census) → Holds limit w slots t c → 1 ≤ c.pending → (1 ≤ w.references) × (slots.future ≡ true)
+pending_facts limit w slots t c h e = (grind arith, grind arith)
 
 cleared_facts : (limit : ℕ) (w : State) (slots : Slots) (t : List Event) (c : Census) → Holds limit w slots t c → 1 ≤ c.cleared → (slots.future ≡ false) × (slots.output ≡ false) × (w.closed ≡ true)
 cleared_facts limit w slots t c h e = (grind arith, grind arith, grind arith)
+
+-- a run that has dropped the future of a Ready poll
+unstored_facts : (limit : ℕ) (w : State) (slots : Slots) (t : List Event) (c : Census) → Holds limit w slots t c → 1 ≤ c.unstored → slots.future ≡ false
+unstored_facts limit w slots t c h e = grind arith
 
 output_facts : (limit : ℕ) (w : State) (slots : Slots) (t : List Event) (c : Census) → Holds limit w slots t c → 1 ≤ c.outputs → slots.future ≡ false
 output_facts limit w slots t c h e = grind arith
@@ -67,7 +71,7 @@ four : (c s r t : Bool) → c ≡ false → s ≡ false → (r && not t) ≡ tru
 four c s r t e f g = grind arith
 
 module _ (F T A : Type 0) (limit : ℕ) where
-  pub gives_up : (hand : Option ℕ) (answer : Answer) (ds : List Deed) (us : List Member) (l : List (ℕ × Slot F T A)) → Owes F T A limit giving_up (λ n. (n + (2 ^ 64 - 256)) % 2 ^ 64) (GivingUp hand answer) ds us l
+  pub gives_up : (hand : Option ℕ) (answer : Answer) (ds : List Deed) (us : List Member) (l : List (ℕ × TaskPlace F T A)) → Owes F T A limit giving_up (λ n. (n + (2 ^ 64 - 256)) % 2 ^ 64) (GivingUp hand answer) ds us l
   gives_up hand answer ds us l m f x e lt = by (nat_lt 1 m.word.references || m.word.task) refl
     where
       here : 1 ≤ (census m.parties).finishing
@@ -87,11 +91,11 @@ module _ (F T A : Type 0) (limit : ℕ) where
       by false h = by_table m {acts = GiveUpLastReference ∷ []} (row_fits (is_last m.word.references m.word.task some h)) fewer (refl, refl)
           (takes_awaiter refl refl refl (inr (refl, refl)) (λ y w. (m.slots.awaiter, w)))
 
-  pub empties : (hand : Option ℕ) (answer : Answer) (ds : List Deed) (us : List Member) (l : List (ℕ × Slot F T A)) → l ≡ (2, Empty) ∷ rest l → Owes F T A limit emptying (λ n. n) (Emptier hand answer) ds us l
+  pub empties : (hand : Option ℕ) (answer : Answer) (ds : List Deed) (us : List Member) (l : List (ℕ × TaskPlace F T A)) → l ≡ awaiter_first None (rest l) → Owes F T A limit emptying (λ n. n) (Emptier hand answer) ds us l
   empties hand answer ds us l has m f x e lt = by_table m refl e (refl, refl)
-      (gives_awaiter Empty refl (given_free hand answer) (given_work hand answer) (inr (refl, refl)) has tt)
+      (gives_awaiter None refl (given_free hand answer) (given_work hand answer) (inr (refl, refl)) has tt)
 
-  pub discards : (ds : List Deed) (us : List Member) (l : List (ℕ × Slot F T A)) → Owes F T A limit discarding (λ n. bit_or n 8) (At Runnable) ds us l
+  pub discards : (ds : List Deed) (us : List Member) (l : List (ℕ × TaskPlace F T A)) → Owes F T A limit discarding (λ n. bit_or n 8) (At Runnable) ds us l
   discards ds us l m f x e lt = by m.word.closed refl
     where
       there : Queued m
@@ -100,15 +104,15 @@ module _ (F T A : Type 0) (limit : ℕ) where
       sets : bit_or x 8 ≡ number_of (record (m.word) { closed = true })
       sets = fetch_or-closed x ∙ ap (λ (w : State). number_of (record w { closed = true })) (ap state_of e ∙ state_of_number_of m.word)
 
-      by : (b : Bool) → m.word.closed ≡ b → Steps m (At Runnable) (if b then DiscardClosed ∷ [] else DiscardOpen ∷ []) (bit_or x 8) l
+      by : (b : Bool) → m.word.closed ≡ b → Steps m (At Runnable) (if b then DiscardClosed ∷ DropFuture ∷ [] else DiscardOpen ∷ DropFuture ∷ []) (bit_or x 8) l
       by true h = by_table m (row_fits h) (sets ∙ ap number_of (closed_already m.word h)) (refl, refl)
-          (takes_future refl refl refl (inr refl) there.future there.output (λ _ h. h))
-      by false h = by_table m (row_fits (ap not h)) sets (refl, refl) (takes_future refl refl refl (inr refl) there.future there.output (λ _ h. h))
+          (takes_future refl refl refl (inr refl) there.future (λ _ h. h))
+      by false h = by_table m (row_fits (ap not h)) sets (refl, refl) (takes_future refl refl refl (inr refl) there.future (λ _ h. h))
 
-  pub answers_ready : (ds : List Deed) (us : List Member) (l : List (ℕ × Slot F T A)) → Owes F T A limit answering_ready (λ n. n) Polling ds us l
+  pub answers_ready : (ds : List Deed) (us : List Member) (l : List (ℕ × TaskPlace F T A)) → Owes F T A limit answering_ready (λ n. n) Polling ds us l
   answers_ready ds us l m f x e lt = by_table m refl e (refl, refl) (stays refl refl (inl refl) (inr refl))
 
-  pub answers_pending : (ds : List Deed) (us : List Member) (l : List (ℕ × Slot F T A)) → Owes F T A limit answering_pending (λ n. n) Polling ds us l
+  pub answers_pending : (ds : List Deed) (us : List Member) (l : List (ℕ × TaskPlace F T A)) → Owes F T A limit answering_pending (λ n. n) Polling ds us l
   answers_pending ds us l m f x e lt = by m.word.closed refl
     where
       by : (b : Bool) → m.word.closed ≡ b → Steps m Polling (if b then AnswerPending ∷ DropFuture ∷ [] else AnswerPending ∷ []) x l
@@ -116,46 +120,49 @@ module _ (F T A : Type 0) (limit : ℕ) where
       by false h = by_table m refl e (refl, refl) (stays refl refl (inl refl) (inr refl))
 
   -- the task was closed meanwhile, and its future is dropped next
-  pub finds_closed : (ds : List Deed) (us : List Member) (l : List (ℕ × Slot F T A)) → OwesEnd F T A limit to_end_pending Pending ds us l
+  pub finds_closed : (ds : List Deed) (us : List Member) (l : List (ℕ × TaskPlace F T A)) → OwesEnd F T A limit to_end_pending Pending ds us l
   finds_closed ds us l m f x e lt h = by_table m (guarded h) e (refl, refl) (stays refl refl (inl refl) (inr refl))
 
-  pub ends_closed : (ds : List Deed) (us : List Member) (l : List (ℕ × Slot F T A)) → l ≡ future_first Empty (rest (rest l)) → Owes F T A limit ending_closed (λ n. bit_and n 18446744073709551612) PendingFutureDropped ds us l
+  pub ends_closed : (ds : List Deed) (us : List Member) (l : List (ℕ × TaskPlace F T A)) → l ≡ work_first Empty (rest l) → Owes F T A limit ending_closed (λ n. bit_and n 18446744073709551612) PendingFutureDropped ds us l
   ends_closed ds us l has m f x e lt = by_table m (row_fits gone.2) (fetch_and-scheduled_running x lt ∙ ap (λ (w : State). number_of (record w { scheduled = false; running = false })) (ap state_of e ∙ state_of_number_of m.word)) (refl, refl)
-      (gives_work Empty Empty refl (due_work m.word.awaiter) (due_free m.word.awaiter) (inr refl) (inl has) (lies_nowhere IsFuture m.slots.future gone.0) (lies_nowhere IsOutput m.slots.output gone.1))
+      (gives_work Empty refl (due_work m.word.awaiter) (due_free m.word.awaiter) (inr refl) has (lies_nowhere F T m.slots gone.0 gone.1))
     where
       gone : (m.slots.future ≡ false) × (m.slots.output ≡ false) × (m.word.closed ≡ true)
       gone = cleared_facts m.limit m.word m.slots m.trace (census m.parties) f.invariant.holds (counted (λ c. c.cleared) (λ a b. refl) m.parties f.number PendingFutureDropped f.stands)
 
-  pub drops_output : (due : Bool) (ds : List Deed) (us : List Member) (l : List (ℕ × Slot F T A)) → l ≡ output_first Empty (rest (rest l)) → Owes F T A limit dropping_output (λ n. n) (OutputInHand due) ds us l
+  pub drops_output : (due : Bool) (ds : List Deed) (us : List Member) (l : List (ℕ × TaskPlace F T A)) → l ≡ work_first Empty (rest l) → Owes F T A limit dropping_output (λ n. n) (OutputInHand due) ds us l
   drops_output due ds us l has m f x e lt = by_table m refl e (refl, refl)
-      (gives_work Empty Empty refl (due_work due) (due_free due) (inr refl) (inr has) (lies_nowhere IsFuture m.slots.future gone) tt)
+      (gives_work Empty refl (due_work due) (due_free due) (inr refl) has (lies_nowhere F T (record (m.slots) { output = false }) gone refl))
     where
       gone : m.slots.future ≡ false
       gone = output_facts m.limit m.word m.slots m.trace (census m.parties) f.invariant.holds (counted (λ c. c.outputs) (λ a b. refl) m.parties f.number (OutputInHand due) f.stands)
 
-  -- the run of a Ready future
-  pub completes : (ds : List Deed) (us : List Member) (z : Slot F T A) (l : List (ℕ × Slot F T A)) → l ≡ output_first z (rest (rest l)) → IsOutput z → OwesChange F T A limit to_complete Ready ds us l
-  completes ds us z l has is m f any = by m.word.task refl
+  -- the run of a Ready future, which was dropped
+  pub completes : (ds : List Deed) (us : List Member) (y : Slot F T) (l : List (ℕ × TaskPlace F T A)) → l ≡ work_first y (rest l) → IsOutput y → OwesChange F T A limit to_complete ReadyFutureDropped ds us l
+  completes ds us y l has is m f any = by m.word.task refl
     where
-      gone : Slots
-      gone = record (m.slots) { future = false }
+      gone : m.slots.future ≡ false
+      gone = unstored_facts m.limit m.word m.slots m.trace (census m.parties) f.invariant.holds (counted (λ c. c.unstored) (λ a b. refl) m.parties f.number ReadyFutureDropped f.stands)
 
       stored : Slots
-      stored = record gone { output = true }
+      stored = record (m.slots) { output = true }
 
-      placed : (b a : Bool) (v : State) (told : List Event) → Placing m Ready (record { word = v; slots = stored; next = if b then OutputInHand a else notifies a OfRun; born = []; told = told }) l
+      lies : Lies {F = F} {T = T} stored.future stored.output y
+      lies = subst (λ (b : Bool). Lies b true y) (sym gone) is
+
+      placed : (b a : Bool) (v : State) (told : List Event) → Placing m ReadyFutureDropped (record { word = v; slots = stored; next = if b then OutputInHand a else notifies a OfRun; born = []; told = told }) l
       placed true a v told = stays refl refl (inl refl) (inr refl)
-      placed false a v told = gives_work Empty z refl (due_work a) (due_free a) (inr refl) (inr has) tt is
+      placed false a v told = gives_work y refl (due_work a) (due_free a) (inr refl) has lies
 
-      by : (b : Bool) → m.word.task ≡ b → let acts : List Act = if b then DropFuture ∷ StoreOutput ∷ Complete ∷ [] else DropFuture ∷ StoreOutput ∷ CompleteDetached ∷ [] in Steps m Ready acts (number_of (word_after m.word acts)) l
-      by true h = by_table m (row_fits h) refl (refl, refl) (placed m.word.closed m.word.awaiter (written Complete m.word) (Completes ∷ RunEnded ∷ FutureDropped ∷ []))
+      by : (b : Bool) → m.word.task ≡ b → let acts : List Act = if b then StoreOutput ∷ Complete ∷ [] else StoreOutput ∷ CompleteDetached ∷ [] in Steps m ReadyFutureDropped acts (number_of (word_after m.word acts)) l
+      by true h = by_table m (row_fits h) refl (refl, refl) (placed m.word.closed m.word.awaiter (written Complete m.word) (Completes ∷ RunEnded ∷ []))
       by false h = by_table m (row_fits (ap not h)) refl (refl, refl) (stays refl refl (inl refl) (inr refl))
 
   -- the run of a Pending future, on an open task
-  pub ends_pending : (ds : List Deed) (us : List Member) (y : Slot F T A) (l : List (ℕ × Slot F T A)) → l ≡ future_first y (rest (rest l)) → IsFuture y → OwesChange F T A limit to_end_pending Pending ds us l
+  pub ends_pending : (ds : List Deed) (us : List Member) (y : Slot F T) (l : List (ℕ × TaskPlace F T A)) → l ≡ work_first y (rest l) → IsFuture y → OwesChange F T A limit to_end_pending Pending ds us l
   ends_pending ds us y l has is m f applied = by m.word.scheduled (nat_lt 1 m.word.references || m.word.task) refl refl
     where
-      facts : (1 ≤ m.word.references) × (m.slots.output ≡ false) × (m.slots.future ≡ true)
+      facts : (1 ≤ m.word.references) × (m.slots.future ≡ true)
       facts = pending_facts m.limit m.word m.slots m.trace (census m.parties) f.invariant.holds (counted (λ c. c.pending) (λ a b. refl) m.parties f.number Pending f.stands)
 
       not_closed : m.word.closed ≡ false
@@ -167,8 +174,8 @@ module _ (F T A : Type 0) (limit : ℕ) where
       by : (b d : Bool) → m.word.scheduled ≡ b → shared ≡ d
           → let acts : List Act = ending_pending (if b then Rescheduled else (if d then Idle else Orphaned)) in Steps m Pending acts (number_of (word_after m.word acts)) l
       by true d h k = by_table m (row_fits (both (ap not not_closed) h)) refl (refl, refl)
-          (gives_work y Empty refl refl refl (inr refl) (inl has) (lies_there IsFuture m.slots.future y facts.2 is) (lies_nowhere IsOutput m.slots.output facts.1))
+          (gives_work y refl refl refl (inr refl) has (future_lies m.slots y facts.1 is))
       by false true h k = by_table m (row_fits (three m.word.closed m.word.scheduled shared not_closed h k)) refl (refl, refl)
-          (gives_work y Empty refl refl refl (inr refl) (inl has) (lies_there IsFuture m.slots.future y facts.2 is) (lies_nowhere IsOutput m.slots.output facts.1))
+          (gives_work y refl refl refl (inr refl) has (future_lies m.slots y facts.1 is))
       by false false h k = by_table m (row_fits (four m.word.closed m.word.scheduled (nat_eq m.word.references 1) m.word.task not_closed h (is_last m.word.references m.word.task facts.0 k))) refl (refl, refl)
-          (gives_work y Empty refl refl refl (inr refl) (inl has) (lies_there IsFuture m.slots.future y facts.2 is) (lies_nowhere IsOutput m.slots.output facts.1))
+          (gives_work y refl refl refl (inr refl) has (future_lies m.slots y facts.1 is))

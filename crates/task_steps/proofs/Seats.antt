@@ -5,7 +5,7 @@ use native.Mathlib.Decide.{ℕ_discrete}
 use lib.ListN.{get_elem?}
 use Rattle.atomic_table.specs.Table.{State as Board, Splits}
 use Rattle.atomic_table.proofs.Lists.{at_set, set_here, set_else, set_again, at_longer}
-use Rattle.task_steps.proofs.Vocabulary.{number_of, Event, HandedOver, Position, OnceDelivered, At, Deliverer, CallEnding, Runnable, Ended, HandOver, ThenEnds, ThenTask, ThenNotifies, Nothing, Outcome, leaves_slots, after_handing_over, Machine, scene, owns_awaiter, laws_of, Slot, Deed, Member}
+use Rattle.task_steps.proofs.Vocabulary.{number_of, Event, HandedOver, Position, OnceDelivered, At, Deliverer, CallEnding, Runnable, Ended, HandOver, ThenEnds, ThenTask, ThenNotifies, Nothing, Outcome, leaves_slots, after_handing_over, Machine, scene, owns_awaiter, laws_of, TaskPlace, Deed, Member}
 use Rattle.task_steps.proofs.Vocabulary.{Spawned, View}
 use Rattle.task_steps.specs.Rule.{deed, member, view, fresh, opening_at, Entry, Explains, has_work, HomesAgree, Running, RuleHolds}
 use Rattle.task_steps.specs.Standing.{hands_over, handed_over}
@@ -67,7 +67,7 @@ just v (suc n) w e = absurd (some-ne-none w (sym e))
 
 module _ (F T A : Type 0) (limit : ℕ) where
   abbrev B : Type 0
-  B = Board (Slot F T A) View
+  B = Board (TaskPlace F T A) View
 
   abbrev Rule : B → Type 0
   Rule = RuleHolds {F = F} {T = T} {A = A} limit
@@ -131,15 +131,15 @@ module _ (F T A : Type 0) (limit : ℕ) where
         here = many_at has_work m.parties k.number p k.stands;
         here_too = many_at owns_awaiter m.parties k.number p k.stands;
         slots_is = f.slots_is;
+        never_both = (laws_of m k.invariant).never_both;
         one_worker = one_work f.machine i;
         one_owner = (laws_of f.machine i).awaiter;
       } in
       let u : Member = member q (deed HandOver None ∷ ds) in let n : Member = fresh (At Runnable) in
       let t1 = leaves limit s.views id l f.log f.machine (u ∷ n ∷ []) (u ∷ []) n 1 f.told lt refl (only u n) in
       let housed : HomesAgree run.filled f.machine s.homes = record {
-        future = λ b z. (same_work F T A limit run.filled m p o f.machine s.homes s.homes a run.housed (w1 ∙ sym w0) (inr (refl, refl)) (refl, refl) z).0 b;
-        output = λ z. (same_work F T A limit run.filled m p o f.machine s.homes s.homes a run.housed (w1 ∙ sym w0) (inr (refl, refl)) (refl, refl) z).1;
-        awaiter = λ z. same_awaiter F T A limit run.filled m p o f.machine s.homes s.homes a run.housed (a1 ∙ sym a0) (inr refl) refl z;
+        work = same_work F T A limit run.filled m p o f.machine s.homes s.homes a run.housed (w1 ∙ sym w0) (inr (refl, refl)) refl;
+        awaiter = same_awaiter F T A limit run.filled m p o f.machine s.homes s.homes a run.housed (a1 ∙ sym a0) (inr refl) refl;
       } in
       let views : set s.views id (view l (u ∷ [])) ++ view l (n ∷ []) ∷ [] ≡ set s.views id (handing_over v) ++ runnable_of v ∷ [] =
       (λ j. set s.views id ((ap (λ z. view l (member z (deed HandOver None ∷ ds) ∷ [])) (sym there) ∙ ap handing_over (sym is)) j) ++ (ap runnable_of (sym is)) j ∷ []) in

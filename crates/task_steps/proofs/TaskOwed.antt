@@ -5,10 +5,10 @@ use Rattle.std.proofs.lemmas.Bool.Decides.{nat_tests}
 use Rattle.atomic_table.specs.Table.{rest}
 use Rattle.task_steps.proofs.Vocabulary.{State, bit, number_of, is_open, Act, Event, At, OutputCloser, Detacher, Task, OfCancel}
 use Rattle.task_steps.proofs.Vocabulary.{CancelIdle, DetachOrphan, DetachLast, Detach, EndCall, Slots, notifies, Machine, owns_awaiter}
-use Rattle.task_steps.proofs.Vocabulary.{Census, census, Holds, Slot, Empty, Deed, Member}
+use Rattle.task_steps.proofs.Vocabulary.{Census, census, Holds, TaskPlace, Empty, Deed, Member}
 use Rattle.task_core.specs.Rows.{found}
-use Rattle.task_steps.specs.Rule.{has_work, IsFuture}
-use Rattle.task_steps.specs.Steps.{saw_closed, output_first}
+use Rattle.task_steps.specs.Rule.{has_work}
+use Rattle.task_steps.specs.Steps.{saw_closed, work_first}
 use Rattle.task_steps.specs.Scripts.{dropping_output}
 use Rattle.task_steps.specs.Attempt.{word_after}
 use Rattle.task_steps.specs.TaskScripts.{closing, detaching, to_cancel, to_detach, giving_task_up}
@@ -51,10 +51,10 @@ idle_cancel true n = (refl, refl)
 idle_cancel false n = (refl, refl)
 
 module _ (F T A : Type 0) (limit : ℕ) where
-  pub finds_over : (n : ℕ) (ds : List Deed) (us : List Member) (l : List (ℕ × Slot F T A)) → OwesEnd F T A limit to_cancel (At (Task n)) ds us l
+  pub finds_over : (n : ℕ) (ds : List Deed) (us : List Member) (l : List (ℕ × TaskPlace F T A)) → OwesEnd F T A limit to_cancel (At (Task n)) ds us l
   finds_over n ds us l m f x e lt is = computed m (row_fits is) e refl
 
-  pub cancels : (n : ℕ) (ds : List Deed) (us : List Member) (l : List (ℕ × Slot F T A)) → OwesChange F T A limit to_cancel (At (Task n)) ds us l
+  pub cancels : (n : ℕ) (ds : List Deed) (us : List Member) (l : List (ℕ × TaskPlace F T A)) → OwesChange F T A limit to_cancel (At (Task n)) ds us l
   cancels n ds us l m f applied = closes (found 0 CancelIdle m.word) refl
     where
       closes : (b : Bool) → found 0 CancelIdle m.word ≡ b → let acts : List Act = closing (if b then Idle m.word.awaiter else Busy m.word.awaiter) in Steps m (At (Task n)) acts (number_of (word_after m.word acts)) l
@@ -70,7 +70,7 @@ module _ (F T A : Type 0) (limit : ℕ) where
   is_last : (m : Machine) → nat_lt 0 m.word.references ≡ false → m.word.closed ≡ true → (nat_eq m.word.references 0 && m.word.closed) ≡ true
   is_last m none closed = both (nat_eq m.word.references 0) m.word.closed (none_left m.word.references none) closed
 
-  pub detaches : (n : ℕ) (ds : List Deed) (us : List Member) (l : List (ℕ × Slot F T A)) → OwesChange F T A limit to_detach (At (Task n)) ds us l
+  pub detaches : (n : ℕ) (ds : List Deed) (us : List Member) (l : List (ℕ × TaskPlace F T A)) → OwesChange F T A limit to_detach (At (Task n)) ds us l
   detaches n ds us l m f any = gives (found 0 Detach m.word) (found 0 DetachLast m.word) (found 0 DetachOrphan m.word) refl refl refl
     where
       gives : (a b c : Bool) → found 0 Detach m.word ≡ a → found 0 DetachLast m.word ≡ b → found 0 DetachOrphan m.word ≡ c
@@ -80,13 +80,13 @@ module _ (F T A : Type 0) (limit : ℕ) where
           (takes_awaiter refl refl refl (inr (refl, refl)) (λ y h. (m.slots.awaiter, h)))
       gives false false true x y fit = computed m (row_fits fit) refl refl
       gives false false false x y z = let claimed = output_left m.word.references m.word.completed m.word.closed x y z in by_table m (row_fits claimed) refl (refl, refl)
-          (takes_output refl refl refl (inr refl) (output_lies m f.invariant claimed).0 (output_lies m f.invariant claimed).1 (λ _ h. h))
+          (takes_output refl refl refl (inr refl) (output_lies m f.invariant claimed) (λ _ h. h))
 
-  pub drops_output : (ds : List Deed) (us : List Member) (l : List (ℕ × Slot F T A)) → l ≡ output_first Empty (rest (rest l)) → Owes F T A limit dropping_output (λ n. n) OutputCloser ds us l
+  pub drops_output : (ds : List Deed) (us : List Member) (l : List (ℕ × TaskPlace F T A)) → l ≡ work_first Empty (rest l) → Owes F T A limit dropping_output (λ n. n) OutputCloser ds us l
   drops_output ds us l has m f x e lt = let none = future_gone m.limit m.word m.slots m.trace (census m.parties) f.invariant.holds (counted (λ c. c.claims) (λ a b. refl) m.parties f.number OutputCloser f.stands) in by_table m refl e (refl, refl)
-      (gives_work Empty Empty refl refl refl (inr refl) (inr has) (lies_nowhere IsFuture m.slots.future none) tt)
+      (gives_work Empty refl refl refl (inr refl) has (lies_nowhere F T (record (m.slots) { output = false }) none refl))
 
-  pub gives_task_up : (ds : List Deed) (us : List Member) (l : List (ℕ × Slot F T A)) → saw_closed ds ≡ true → Owes F T A limit giving_task_up (λ n. (n + (2 ^ 64 - 16)) % 2 ^ 64) Detacher ds us l
+  pub gives_task_up : (ds : List Deed) (us : List Member) (l : List (ℕ × TaskPlace F T A)) → saw_closed ds ≡ true → Owes F T A limit giving_task_up (λ n. (n + (2 ^ 64 - 16)) % 2 ^ 64) Detacher ds us l
   gives_task_up ds us l saw m f x e lt = gives (nat_lt 0 m.word.references) refl
     where
       wrote : (x + (2 ^ 64 - 16)) % 2 ^ 64 ≡ number_of (record (m.word) { task = false })

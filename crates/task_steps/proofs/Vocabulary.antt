@@ -2,6 +2,7 @@
 pub use Rattle.task_core.proofs.Bits.{fetch_and-awaiter_notifying, fetch_and-awaiter_registering_notifying, fetch_and-scheduled, fetch_and-scheduled_running}
 pub use Rattle.task_core.proofs.Bits.{fetch_and-task, fetch_or-closed, fetch_or-notifying, fetch_sub-reference, state_of_number_of}
 pub use Rattle.task_core.specs.Rows.{found, row, written}
+pub use Rattle.counted_block.specs.declared.place.Place.TheVariants.{First, Second}
 pub use Rattle.task_core.specs.Word.{State, bit, is_open, number_of, orphan_word, state_of}
 pub use Rattle.task_core.specs.declared.acts.Act.{Act}
 pub use Rattle.task_core.specs.declared.acts.Act.TheVariants.{AnswerPending, AnswerReady, BeginNotify, BeginRegister, CancelBusy, CancelIdle, CancelOver}
@@ -50,8 +51,9 @@ pub use Rattle.task_laws.proofs.Words.{rule_word}
 pub use Rattle.task_steps.specs.declared.table.Deed.{Deed}
 pub use Rattle.task_steps.specs.declared.table.Member.{Member}
 pub use Rattle.task_steps.specs.declared.table.Slot.{Slot}
-pub use Rattle.task_steps.specs.declared.table.Slot.TheVariants.{Awaiter, Empty}
+pub use Rattle.task_steps.specs.declared.table.Slot.TheVariants.{Empty}
 pub use Rattle.task_steps.specs.declared.table.Stage.{Stage}
 pub use Rattle.task_steps.specs.declared.table.Stage.TheVariants.{Filling, Laid, Spawned}
 pub use Rattle.task_steps.specs.declared.table.Tries.{Tries}
 pub use Rattle.task_steps.specs.declared.table.View.{View}
+pub use Rattle.task_steps.specs.Rule.{TaskPlace}

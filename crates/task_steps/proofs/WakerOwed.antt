@@ -4,7 +4,7 @@ use Rattle.std.specs.Prelude.{nat_lt, nat_le, nat_eq, if◌then◌else◌}
 use Rattle.std.proofs.lemmas.Bool.Decides.{nat_tests}
 use Rattle.task_steps.proofs.Vocabulary.{State, state_of, number_of, is_open, Event, Rest, Runnable, Waker, Lent}
 use Rattle.task_steps.proofs.Vocabulary.{At, OrphanHolder, DropWaker, DropLastWaker, OrphanTask, WakeScheduled, WakeRunning, WakeIdle}
-use Rattle.task_steps.proofs.Vocabulary.{Act, EndCall, Slots, is_held, may_ask, may_gain, may_wake, Machine, scene, Census, census, Holds, state_of_number_of, fetch_sub-reference, Slot}
+use Rattle.task_steps.proofs.Vocabulary.{Act, EndCall, Slots, is_held, may_ask, may_gain, may_wake, Machine, scene, Census, census, Holds, state_of_number_of, fetch_sub-reference, TaskPlace}
 use Rattle.task_steps.proofs.Vocabulary.{Deed, Member}
 use Rattle.task_core.specs.Rows.{found}
 use Rattle.task_steps.specs.Attempt.{word_after}
@@ -57,20 +57,20 @@ gains_it r m ask held = never ask
 
 module _ (F T A : Type 0) (limit : ℕ) where
   -- the count is at the limit
-  pub finds_limit : (r : Rest) (ds : List Deed) (us : List Member) (l : List (ℕ × Slot F T A)) → may_ask r ≡ true → OwesEnd F T A limit to_gain (At r) ds us l
+  pub finds_limit : (r : Rest) (ds : List Deed) (us : List Member) (l : List (ℕ × TaskPlace F T A)) → may_ask r ≡ true → OwesEnd F T A limit to_gain (At r) ds us l
   finds_limit r ds us l may m f x e lt full = computed m (allows _ (may_ask r) (at_the_limit m.word.references limit m.limit (not_true (nat_lt m.word.references limit) full) f.limited) may) e refl
 
   -- a reference is gained
-  pub gains : (r : Rest) (ds : List Deed) (us : List Member) (l : List (ℕ × Slot F T A)) → may_ask r ≡ true → OwesChange F T A limit to_gain (At r) ds us l
+  pub gains : (r : Rest) (ds : List Deed) (us : List Member) (l : List (ℕ × TaskPlace F T A)) → may_ask r ≡ true → OwesChange F T A limit to_gain (At r) ds us l
   gains r ds us l may m f applied = let room : nat_lt m.word.references limit ≡ true = right_true (is_held m.word) _ applied in
       computed m (allows _ (may_gain (scene m) r) (ap (λ k. nat_lt m.word.references k) f.limited ∙ room) (gains_it r m may (left_true (is_held m.word) _ applied))) refl refl
 
   -- the task is over
-  pub finds_over : (r : Rest) (ds : List Deed) (us : List Member) (l : List (ℕ × Slot F T A)) → may_call r ≡ true → OwesEnd F T A limit to_wake (At r) ds us l
+  pub finds_over : (r : Rest) (ds : List Deed) (us : List Member) (l : List (ℕ × TaskPlace F T A)) → may_call r ≡ true → OwesEnd F T A limit to_wake (At r) ds us l
   finds_over r ds us l may m f x e lt is = computed m (allows _ (may_wake (scene m) r) is (finds_it_over r m may (not_true (is_open m.word) is))) e refl
 
   -- a wake of an open task
-  pub wakes : (r : Rest) (ds : List Deed) (us : List Member) (l : List (ℕ × Slot F T A)) → may_call r ≡ true → OwesChange F T A limit to_wake (At r) ds us l
+  pub wakes : (r : Rest) (ds : List Deed) (us : List Member) (l : List (ℕ × TaskPlace F T A)) → may_call r ≡ true → OwesChange F T A limit to_wake (At r) ds us l
   wakes r ds us l may m f applied = by (found 0 WakeIdle m.word) (found 0 WakeRunning m.word) refl refl
     where
       lets : may_wake (scene m) r ≡ true
@@ -83,7 +83,7 @@ module _ (F T A : Type 0) (limit : ℕ) where
       by false false unfit too = computed m (allows _ (may_wake (scene m) r) (scheduled_fits m.word (right_true (is_held m.word) (is_open m.word) applied) unfit too) lets) refl refl
 
   -- a waker is dropped
-  pub drops_waker : (ds : List Deed) (us : List Member) (l : List (ℕ × Slot F T A)) → Owes F T A limit dropping_waker (λ n. (n + (2 ^ 64 - 256)) % 2 ^ 64) (At Waker) ds us l
+  pub drops_waker : (ds : List Deed) (us : List Member) (l : List (ℕ × TaskPlace F T A)) → Owes F T A limit dropping_waker (λ n. (n + (2 ^ 64 - 256)) % 2 ^ 64) (At Waker) ds us l
   drops_waker ds us l m f x e lt = by (nat_lt 1 m.word.references || m.word.task) (is_open m.word) refl refl
     where
       here : 1 ≤ (census m.parties).wakers
@@ -106,5 +106,5 @@ module _ (F T A : Type 0) (limit : ℕ) where
           (takes_awaiter refl refl refl (inr (refl, refl)) (λ y w. (m.slots.awaiter, w)))
 
   -- the last waker closes the task
-  pub closes_orphan : (ds : List Deed) (us : List Member) (l : List (ℕ × Slot F T A)) → Owes F T A limit closing_orphan (λ _. 265) OrphanHolder ds us l
+  pub closes_orphan : (ds : List Deed) (us : List Member) (l : List (ℕ × TaskPlace F T A)) → Owes F T A limit closing_orphan (λ _. 265) OrphanHolder ds us l
   closes_orphan ds us l m f x e lt = computed m refl refl refl

@@ -4,7 +4,7 @@ use mathlib.Core.Option.{some}
 use lib.ListN.{get_elem?}
 use Rattle.atomic_table.specs.Table.{State as Board, Splits}
 use Rattle.atomic_table.proofs.Lists.{at_longer, set_again}
-use Rattle.task_steps.proofs.Vocabulary.{Slot, Member, View}
+use Rattle.task_steps.proofs.Vocabulary.{TaskPlace, Member, View}
 use Rattle.task_steps.specs.Rule.{view, Explains, RuleHolds}
 use Rattle.task_steps.specs.Beside.{others, newest_of, without_newest, newest}
 use Rattle.task_steps.proofs.Explains.{inside, at_second}
@@ -20,7 +20,7 @@ newest_is u n (w ∷ us) = newest_is w n us
 
 module _ (F T A : Type 0) (limit : ℕ) where
   abbrev B : Type 0
-  B = Board (Slot F T A) View
+  B = Board (TaskPlace F T A) View
 
   abbrev Rule : B → Type 0
   Rule = RuleHolds {F = F} {T = T} {A = A} limit

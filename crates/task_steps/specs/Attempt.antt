@@ -20,9 +20,11 @@ word_after w [] = w
 word_after w (a ∷ more) = word_after (written a w) more
 
 module _ {Row : Type 0} where
+  -- the acts of the change on this word
   abbrev pub acts_on : Attempt Row → State → List Act
   acts_on a w = a.acts (a.row w)
 
+  -- whether the change makes or ends a share on this word
   abbrev pub counts_on : Attempt Row → State → Bool
   counts_on a w = a.counts (a.row w)
 
@@ -34,6 +36,7 @@ module _ {Row : Type 0} where
 abbrev pub no_end : ℕ → State → Bool
 no_end limit w = false
 
+-- nothing is done at the end of an attempt
 abbrev pub no_acts : State → List Act
 no_acts w = []
 

@@ -1,19 +1,19 @@
 -- What a party does that tries to change the word by compare and exchange, and what it has seen meanwhile.
-use Rattle.std.specs.Prelude.{◌≡◌, ◌≢◌, ◌<◌, ℕ, ◌+◌, ◌==◌, true, false, ◌∷◌, Option, Some, None}
+use Rattle.std.specs.Prelude.{◌≡◌, ◌≢◌, ℕ, ◌+◌, ◌==◌, true, false, ◌∷◌, Option, Some, None}
 use mathlib.Core.Option.{none}
 use prog.Atomic.{either}
 use Rattle.atomic_table.specs.Table.{Me, Step, step, Allows}
 use Rattle.task_core.specs.Word.{HasRoom, State, state_of, number_of}
 use Rattle.task_steps.specs.declared.attempt.TriedOnce.{TriedOnce}
 use Rattle.task_steps.specs.declared.attempt.TriedOnce.TheVariants.{Made, Ended, Again}
-use Rattle.task_steps.specs.declared.table.Slot.{Slot}
 use Rattle.task_steps.specs.declared.table.Tries.{Tries}
 use Rattle.task_steps.specs.declared.table.View.{View}
-use Rattle.task_steps.specs.Rule.{view, trying, RuleHolds}
+use Rattle.task_steps.specs.Rule.{TaskPlace, view, trying, RuleHolds}
 use Rattle.task_steps.specs.Steps.{head_of, tail_of, Makes}
 use Rattle.task_steps.specs.Knows.{Knows}
 use Rattle.task_steps.specs.Attempt.{Attempt, word_after, acts_on}
 
+-- the misses that count since the party's last act
 abbrev pub misses_of : Option Tries → ℕ
 misses_of None = 0
 misses_of (Some t) = t.misses
@@ -38,19 +38,19 @@ having_seen t v = view v.limit (trying (head_of v.members).at (head_of v.members
 
 module _ {F T A : Type 0} where
   -- what a load of an attempt tells: where the word ends the attempt, the acts of that end
-  abbrev pub observed : {Row : Type 0} → Attempt Row → Step (Slot F T A) → Me (Slot F T A) View → ℕ → Me (Slot F T A) View → Type 0
+  abbrev pub observed : {Row : Type 0} → Attempt Row → Step (TaskPlace F T A) → Me (TaskPlace F T A) View → ℕ → Me (TaskPlace F T A) View → Type 0
   observed a st m r m' = (a.ends m.0.limit (state_of r) ≡ true → Makes (a.acts_at_end (state_of r)) (state_of r) m m')
       × (a.ends m.0.limit (state_of r) ≡ false → m' ≡ (having_seen (looked (state_of r) (head_of m.0.members).tries) m.0, m.1))
       × Knows (head_of m.0.members).deeds (state_of r)
 
   -- .. and its exchange: where it finds the word that it names, the acts of the change
-  abbrev pub attempted : {Row : Type 0} → Attempt Row → Step (Slot F T A) → Me (Slot F T A) View → ℕ → Me (Slot F T A) View → Type 0
+  abbrev pub attempted : {Row : Type 0} → Attempt Row → Step (TaskPlace F T A) → Me (TaskPlace F T A) View → ℕ → Me (TaskPlace F T A) View → Type 0
   attempted a st m r m' = (r ≡ st.first → Makes (acts_on a (state_of r)) (state_of r) m m')
       × (r ≢ st.first → m' ≡ (having_seen (missed (state_of r) (head_of m.0.members).tries) m.0, m.1))
       × Knows (head_of m.0.members).deeds (state_of r)
 
   -- the rule allows each load and each exchange of an attempt, whatever the party has seen
-  pub record MayTry {Row : Type 0} (limit slots id : ℕ) (me : Me (Slot F T A) View) (a : Attempt Row) : Type 0 where
+  pub record MayTry {Row : Type 0} (limit slots id : ℕ) (me : Me (TaskPlace F T A) View) (a : Attempt Row) : Type 0 where
     pub loads : (t : Option Tries)
         → Allows (RuleHolds {F = F} {T = T} {A = A} limit) slots id (having_seen t me.0, me.1) 0 (λ n. n)
         (observed a (step slots 0 0 0 none) (having_seen t me.0, me.1))
@@ -60,7 +60,7 @@ module _ {F T A : Type 0} where
         (attempted a (step slots 0 (number_of w) (number_of (word_after w (acts_on a w))) none) (having_seen t me.0, me.1))
 
   -- an attempt has made its change on a word of this row
-  pub record HasChanged {Row : Type 0} (limit : ℕ) (a : Attempt Row) (row : Row) (me me' : Me (Slot F T A) View) : Type 0 where
+  pub record HasChanged {Row : Type 0} (limit : ℕ) (a : Attempt Row) (row : Row) (me me' : Me (TaskPlace F T A) View) : Type 0 where
     pub word : State
     pub is : row ≡ a.row word
     pub applied : a.applies limit word ≡ true
@@ -68,19 +68,19 @@ module _ {F T A : Type 0} where
     pub knows : Knows (head_of me.0.members).deeds word
 
   -- .. or this word has ended it
-  pub record HasEnded {Row : Type 0} (limit : ℕ) (a : Attempt Row) (w : State) (me me' : Me (Slot F T A) View) : Type 0 where
+  pub record HasEnded {Row : Type 0} (limit : ℕ) (a : Attempt Row) (w : State) (me me' : Me (TaskPlace F T A) View) : Type 0 where
     pub at_end : a.ends limit w ≡ true
     pub made : Makes (a.acts_at_end w) w me me'
     pub knows : Knows (head_of me.0.members).deeds w
 
   -- or the seat is as it was, but for what it has seen, which is this word
-  pub record HasSeen (w : State) (me me' : Me (Slot F T A) View) : Type 0 where
+  pub record HasSeen (w : State) (me me' : Me (TaskPlace F T A) View) : Type 0 where
     pub tries : Option Tries
     pub names : Names w tries
     pub is : me' ≡ (having_seen tries me.0, me.1)
 
   -- what one try of a change has come to
-  abbrev pub HasTried : {Row M K : Type 0} → ℕ → Attempt Row → TriedOnce Row M K → Me (Slot F T A) View → Me (Slot F T A) View → Type 0
+  abbrev pub HasTried : {Row M K : Type 0} → ℕ → Attempt Row → TriedOnce Row M K → Me (TaskPlace F T A) View → Me (TaskPlace F T A) View → Type 0
   HasTried limit a (Made row m) me me' = HasChanged limit a row me me'
   HasTried limit a (Ended w k) me me' = HasEnded limit a w me me'
   HasTried limit a (Again w k) me me' = HasRoom w × HasSeen w me me'

@@ -1,12 +1,12 @@
 -- What a party knows of the word that it finds, by what it has seen before.
-use Rattle.std.specs.Prelude.{◌≡◌, ℕ, ◌<◌, true, false, List}
+use Rattle.std.specs.Prelude.{◌≡◌, ℕ, true, false, List}
 use Rattle.atomic_table.specs.Table.{Me, Step}
 use Rattle.task_core.specs.Word.{HasRoom, State, state_of, is_open}
 use Rattle.task_core.specs.declared.acts.Act.{Act}
-use Rattle.task_steps.specs.declared.table.Slot.{Slot}
 use Rattle.task_steps.specs.declared.table.Deed.{Deed}
 use Rattle.task_steps.specs.declared.table.View.{View}
 use Rattle.task_steps.specs.PollScripts.{has_ended}
+use Rattle.task_steps.specs.Rule.{TaskPlace}
 use Rattle.task_steps.specs.Steps.{head_of, Makes, saw_over, saw_closed, saw_ended}
 
 -- what it has seen of the task's end is still so, and the count has room for one more
@@ -18,5 +18,5 @@ pub record Knows (ds : List Deed) (w : State) : Type 0 where
 
 module _ {F T A : Type 0} where
   -- what a step tells that always makes its acts, and what is known of the word that it finds
-  abbrev pub known : (State → List Act) → Step (Slot F T A) → Me (Slot F T A) View → ℕ → Me (Slot F T A) View → Type 0
+  abbrev pub known : (State → List Act) → Step (TaskPlace F T A) → Me (TaskPlace F T A) View → ℕ → Me (TaskPlace F T A) View → Type 0
   known acts st m r m' = Makes (acts (state_of r)) (state_of r) m m' × Knows (head_of m.0.members).deeds (state_of r)

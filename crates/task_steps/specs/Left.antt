@@ -1,19 +1,21 @@
--- What lies in the places of a cell at its end.
-use Rattle.std.specs.Prelude.{ℕ}
+-- What lies in the places of a cell when its last share is closed.
+use Rattle.std.specs.Prelude.{◌≡◌, ℕ, true, List, ◌∷◌, None}
+use mathlib.Core.Option.{some}
+use lib.ListN.{get_elem?}
 use Rattle.atomic_table.specs.Table.{State as Board}
-use Rattle.task_laws.specs.Laws.{NobodyIsLeft}
-use Rattle.task_steps.specs.declared.table.Slot.{Slot}
+use Rattle.task_steps.specs.declared.table.Member.{Member}
 use Rattle.task_steps.specs.declared.table.View.{View}
-use Rattle.task_steps.specs.Rule.{IsEmpty, AtHome, Running}
+use Rattle.task_steps.specs.Rule.{TaskPlace, IsEmpty, Waits, WorkAtHome, AwaiterAtHome, RuleHolds}
+use Rattle.task_steps.specs.Shares.{has_emptied}
 
 module _ {F T A : Type 0} where
-  -- the places of future, output and awaiter are at home, and nothing lies there
-  pub record NothingLies (s : Board (Slot F T A) View) : Type 0 where
-    pub future : AtHome s.homes 0 IsEmpty
-    pub output : AtHome s.homes 1 IsEmpty
-    pub awaiter : AtHome s.homes 2 IsEmpty
+  -- both places are at home, and nothing lies there
+  pub record NothingLies (s : Board (TaskPlace F T A) View) : Type 0 where
+    pub work : WorkAtHome s.homes IsEmpty
+    pub awaiter : AwaiterAtHome s.homes (Waits None)
 
--- .. wherever the rule holds, and no handle and no call is left
-abbrev pub EmptyAtEnd : Type 0 → Type 0 → Type 0 → Type 0
-EmptyAtEnd F T A =
-    (limit : ℕ) (s : Board (Slot F T A) View) (r : Running {F = F} {T = T} {A = A} limit s) → NobodyIsLeft r.machine.trace → NothingLies s
+-- .. wherever the rule holds, and a party has emptied the places, as who closes the last share has
+abbrev pub EmptyAtClose : Type 0 → Type 0 → Type 0 → Type 0
+EmptyAtClose F T A =
+    (limit : ℕ) (s : Board (TaskPlace F T A) View) → RuleHolds {F = F} {T = T} {A = A} limit s → (id : ℕ) (v : View) (u : Member) (us : List Member)
+    → get_elem? s.views id ≡ some v → v.members ≡ u ∷ us → has_emptied u.deeds ≡ true → NothingLies s

@@ -17,3 +17,4 @@ pub mod PollScripts
 pub mod WakerScripts
 pub mod Beside
 pub mod Held
+pub mod Witness

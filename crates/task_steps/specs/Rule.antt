@@ -5,6 +5,8 @@ use mathlib.Core.Option.{some}
 use mathlib.Core.Option as maybe
 use lib.ListN.{get_elem?}
 use Rattle.atomic_table.specs.Table.{State as Board}
+use Rattle.counted_block.specs.declared.place.Place.{Place}
+use Rattle.counted_block.specs.declared.place.Place.TheVariants.{First, Second}
 use Rattle.task_core.specs.Word.{State, bit, number_of}
 use Rattle.task_core.specs.Rows.{written, row_of}
 use Rattle.task_laws.specs.declared.positions.Rest.TheVariants.{Runnable, Task, Lent}
@@ -18,7 +20,7 @@ use Rattle.task_core.specs.declared.acts.Act.TheVariants.{Look, LookFinished}
 use Rattle.task_laws.specs.Machine.{Machine, Step, opening, step, how_many}
 use Rattle.task_laws.specs.Holders.{owns_awaiter}
 use Rattle.task_steps.specs.declared.table.Slot.{Slot}
-use Rattle.task_steps.specs.declared.table.Slot.TheVariants.{Empty, Future, Output, Awaiter}
+use Rattle.task_steps.specs.declared.table.Slot.TheVariants.{Empty, Future, Output}
 use Rattle.task_steps.specs.declared.table.Stage.{Stage}
 use Rattle.task_steps.specs.declared.table.Stage.TheVariants.{Laid, Filling, Spawned}
 use Rattle.task_steps.specs.declared.table.Deed.{Deed}
@@ -26,6 +28,7 @@ use Rattle.task_steps.specs.declared.table.Tries.{Tries}
 use Rattle.task_steps.specs.declared.table.Member.{Member}
 use Rattle.task_steps.specs.declared.table.View.{View}
 
+-- an act, and the word that it found, unless it is private
 abbrev pub deed : Act → Option State → Deed
 deed a f = record { act = a; found = f }
 
@@ -33,6 +36,7 @@ deed a f = record { act = a; found = f }
 abbrev pub trying : Position → List Deed → Option Tries → Member
 trying p l t = record { at = p; deeds = l; tries = t }
 
+-- a party that tries no change
 abbrev pub member : Position → List Deed → Member
 member p l = trying p l None
 
@@ -48,12 +52,15 @@ view l ms = record { stage = Spawned; limit = l; members = ms }
 abbrev pub opening_at : Stage → ℕ → View
 opening_at stage l = record { stage = stage; limit = l; members = fresh (At Runnable) ∷ fresh (At (Task 0)) ∷ [] }
 
+-- the opening seat, as long as no future was put in
 abbrev pub laid_view : ℕ → View
 laid_view l = opening_at Laid l
 
+-- the opening seat while it puts the future in
 abbrev pub filling_view : ℕ → View
 filling_view l = opening_at Filling l
 
+-- the opening seat once the task is spawned
 abbrev pub opening_view : ℕ → View
 opening_view l = opening_at Spawned l
 
@@ -92,11 +99,12 @@ abbrev pub steps_of : List Entry → List Step
 steps_of [] = []
 steps_of (e ∷ earlier) = steps_of earlier ++ record { party = e.party; act = e.deed.act } ∷ []
 
+-- a deed before others, where this is so
 abbrev pub noted_if : Bool → Deed → List Deed → List Deed
 noted_if true d l = d ∷ l
 noted_if false d l = l
 
--- what party k did in it, newest first
+-- what party k did in an interleaving, newest first
 abbrev pub deeds_of : ℕ → List Entry → List Deed
 deeds_of k [] = []
 deeds_of k (e ∷ earlier) = noted_if (eqb e.party k) e.deed (deeds_of k earlier)
@@ -142,7 +150,7 @@ pub record Explains (limit : ℕ) (views : List View) (log : List Entry) (m : Ma
   pub each : (seat index : ℕ) (v : View) (u : Member) → get_elem? views seat ≡ some v → get_elem? v.members index ≡ some u
       → (k : ℕ) × IsParty m log holder seat index u k
 
--- the party has the places of future and output
+-- the party has place 0, the place of the work
 abbrev pub has_work : Position → Bool
 has_work Starting = true
 has_work Polling = true
@@ -162,60 +170,64 @@ has_work (Releaser hand (OfClaim n)) = true
 has_work (AwaiterInHand i (OfClaim n)) = true
 has_work _ = false
 
-module _ {F T A : Type 0} where
-  abbrev pub IsFuture : Slot F T A → Type 0
+-- what lies in a place: in place 0 nothing, the future or the output, and in place 1 an awaiter or none
+abbrev pub TaskPlace : Type 0 → Type 0 → Type 0 → Type 0
+TaskPlace F T A = Place (Slot F T) (Option A)
+
+module _ {F T : Type 0} where
+  -- the future lies in place 0
+  abbrev pub IsFuture : Slot F T → Type 0
   IsFuture (Future f) = Unit {0}
   IsFuture Empty = ⊥
   IsFuture (Output x) = ⊥
-  IsFuture (Awaiter a) = ⊥
 
-  abbrev pub IsOutput : Slot F T A → Type 0
+  -- the output lies in place 0
+  abbrev pub IsOutput : Slot F T → Type 0
   IsOutput (Output x) = Unit {0}
   IsOutput Empty = ⊥
   IsOutput (Future f) = ⊥
-  IsOutput (Awaiter a) = ⊥
 
-  abbrev pub IsEmpty : Slot F T A → Type 0
+  -- nothing lies in place 0
+  abbrev pub IsEmpty : Slot F T → Type 0
   IsEmpty Empty = Unit {0}
   IsEmpty (Future f) = ⊥
   IsEmpty (Output x) = ⊥
-  IsEmpty (Awaiter a) = ⊥
 
-  abbrev pub IsAwaiter : Slot F T A → Type 0
-  IsAwaiter (Awaiter a) = Unit {0}
-  IsAwaiter Empty = ⊥
-  IsAwaiter (Future f) = ⊥
-  IsAwaiter (Output x) = ⊥
+  -- what lies in place 0, where the machine has a future, or an output; it never has both, by `never_both` of task_laws
+  abbrev pub Lies : Bool → Bool → Slot F T → Type 0
+  Lies true output y = IsFuture y
+  Lies false true y = IsOutput y
+  Lies false false y = IsEmpty y
 
-  -- such a value lies there where the machine says so, and else nothing
-  abbrev pub Lies : (Slot F T A → Type 0) → Bool → Slot F T A → Type 0
-  Lies Is true y = Is y
-  Lies Is false y = IsEmpty y
+-- the awaiter slot holds what the machine says
+abbrev pub Waits : {A : Type 0} → Option ℕ → Option A → Type 0
+Waits None None = Unit {0}
+Waits (Some i) (Some a) = Unit {0}
+Waits None (Some a) = ⊥
+Waits (Some i) None = ⊥
 
-  -- the awaiter slot holds what the machine says
-  abbrev pub Waits : Option ℕ → Slot F T A → Type 0
-  Waits None y = IsEmpty y
-  Waits (Some i) y = IsAwaiter y
+module _ {F T A : Type 0} where
+  -- place 0 is at home, with such a value
+  abbrev pub WorkAtHome : List (maybe.Option (TaskPlace F T A)) → (Slot F T → Type 0) → Type 0
+  WorkAtHome homes Is = (y : Slot F T) × (get_elem? homes 0 ≡ some (some (First y))) × Is y
 
-  -- the place k is at home, with such a value
-  abbrev pub AtHome : List (maybe.Option (Slot F T A)) → ℕ → (Slot F T A → Type 0) → Type 0
-  AtHome homes k Is = (y : Slot F T A) × (get_elem? homes k ≡ some (some y)) × Is y
+  -- place 1 is
+  abbrev pub AwaiterAtHome : List (maybe.Option (TaskPlace F T A)) → (Option A → Type 0) → Type 0
+  AwaiterAtHome homes Is = (y : Option A) × (get_elem? homes 1 ≡ some (some (Second y))) × Is y
 
-  -- a place that no party has is at home, with what the machine says: 0 is the future's, once it was put in, 1 the output's, 2 the
-  -- awaiter's
-  pub record HomesAgree (filled : Bool) (m : Machine) (homes : List (maybe.Option (Slot F T A))) : Type 0 where
-    pub future : filled ≡ true → how_many has_work m.parties ≡ 0 → AtHome homes 0 (Lies IsFuture m.slots.future)
-    pub output : how_many has_work m.parties ≡ 0 → AtHome homes 1 (Lies IsOutput m.slots.output)
-    pub awaiter : how_many owns_awaiter m.parties ≡ 0 → AtHome homes 2 (Waits m.slots.awaiter)
+  -- a place that no party has is at home, with what the machine says, place 0 once the future was put in
+  pub record HomesAgree (filled : Bool) (m : Machine) (homes : List (maybe.Option (TaskPlace F T A))) : Type 0 where
+    pub work : filled ≡ true → how_many has_work m.parties ≡ 0 → WorkAtHome homes (Lies m.slots.future m.slots.output)
+    pub awaiter : how_many owns_awaiter m.parties ≡ 0 → AwaiterAtHome homes (Waits m.slots.awaiter)
 
-  -- until the future was put in, its place is empty, or with the opening seat
-  pub record Unfilled (limit : ℕ) (s : Board (Slot F T A) View) : Type 0 where
+  -- until the future was put in, place 0 is empty, or with the opening seat
+  pub record Unfilled (limit : ℕ) (s : Board (TaskPlace F T A) View) : Type 0 where
     pub stage : Stage
     pub first : get_elem? s.views 0 ≡ some (opening_at stage limit)
-    pub place : (stage ≡ Laid) × AtHome s.homes 0 IsEmpty ⊎ (stage ≡ Filling)
+    pub place : (stage ≡ Laid) × WorkAtHome s.homes IsEmpty ⊎ (stage ≡ Filling)
 
   -- an interleaving of the machine, from the moment in which there is memory for the task
-  pub record Running (limit : ℕ) (s : Board (Slot F T A) View) : Type 0 where
+  pub record Running (limit : ℕ) (s : Board (TaskPlace F T A) View) : Type 0 where
     pub log : List Entry
     pub machine : Machine
     pub filled : Bool
@@ -227,6 +239,7 @@ module _ {F T A : Type 0} where
     pub unfilled : filled ≡ false → Unfilled limit s
     pub staged : (seat : ℕ) (v : View) → (filled ≡ false → seat ≢ 0) → get_elem? s.views seat ≡ some v → v.stage ≡ Spawned
 
-  pub record RuleHolds (limit : ℕ) (s : Board (Slot F T A) View) : Type 0 where
+  -- the rule of a cell: its limit is below 2 ^ 55, and an interleaving explains its word, its places and its seats
+  pub record RuleHolds (limit : ℕ) (s : Board (TaskPlace F T A) View) : Type 0 where
     pub capped : limit < 36028797018963968
     pub running : Running limit s

@@ -13,7 +13,7 @@ use Rattle.task_steps.specs.WakerScripts.{others_left}
 
 -- SCHEDULED is cleared, after the future was dropped
 abbrev pub unscheduling : State → List Act
-unscheduling w = DropFuture ∷ Unschedule ∷ []
+unscheduling w = Unschedule ∷ []
 
 -- the reference is given up
 abbrev pub giving_up : State → List Act
@@ -23,18 +23,19 @@ giving_up w = if found 0 GiveUpReference w then GiveUpReference ∷ [] else Give
 abbrev pub emptying : State → List Act
 emptying w = EmptySlots ∷ []
 
--- a Runnable that is dropped closes the task
+-- a Runnable that is dropped closes the task; the future is dropped next
 abbrev pub discarding : State → List Act
-discarding w = if found 0 DiscardClosed w then DiscardClosed ∷ [] else DiscardOpen ∷ []
+discarding w = if found 0 DiscardClosed w then DiscardClosed ∷ DropFuture ∷ [] else DiscardOpen ∷ DropFuture ∷ []
 
--- the poll of the future has answered Ready
+-- the poll of the future has answered Ready; the future is dropped next
 abbrev pub answering_ready : State → List Act
-answering_ready w = AnswerReady ∷ []
+answering_ready w = AnswerReady ∷ DropFuture ∷ []
 
 -- the run ends, after the future was dropped and the output stored
 abbrev pub completing : State → List Act
-completing w = if found 0 Complete w then DropFuture ∷ StoreOutput ∷ Complete ∷ [] else DropFuture ∷ StoreOutput ∷ CompleteDetached ∷ []
+completing w = if found 0 Complete w then StoreOutput ∷ Complete ∷ [] else StoreOutput ∷ CompleteDetached ∷ []
 
+-- that end as an attempt, which fits every word
 abbrev pub to_complete : Attempt State
 to_complete = record { applies = λ limit w. true; row = λ w. w; acts = completing; counts = λ w. false; ends = no_end; acts_at_end = no_acts }
 
@@ -46,6 +47,7 @@ answering_pending w = if w.closed then AnswerPending ∷ DropFuture ∷ [] else 
 abbrev pub ending_of : State → PendingEnd
 ending_of w = if w.scheduled then Rescheduled else (if others_left w then Idle else Orphaned)
 
+-- the acts of that end
 abbrev pub ending_pending : PendingEnd → List Act
 ending_pending Rescheduled = Reschedule ∷ []
 ending_pending Idle = EndIdle ∷ EndCall ∷ []

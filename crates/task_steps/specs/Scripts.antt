@@ -18,14 +18,14 @@ taking_awaiter w = if found 0 MissNotify w then MissNotify ∷ [] else BeginNoti
 abbrev pub releasing_awaiter : State → List Act
 releasing_awaiter w = EndNotify ∷ []
 
--- the awaiter in hand was woken
+-- the awaiter in hand is woken
 abbrev pub waking : State → List Act
 waking w = WakeAwaiter ∷ []
 
--- the awaiter in hand was dropped
+-- the awaiter in hand is dropped
 abbrev pub dropping : State → List Act
 dropping w = DropAwaiter ∷ []
 
--- an output that nobody will claim was dropped
+-- an output that nobody will claim is dropped
 abbrev pub dropping_output : State → List Act
 dropping_output w = DropOutput ∷ []

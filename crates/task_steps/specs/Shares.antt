@@ -6,11 +6,10 @@ use Rattle.counted_block.specs.Counts.{More, Less}
 use Rattle.task_core.specs.Word.{State, bit, state_of, number_of}
 use Rattle.task_core.specs.declared.acts.Act.{Act}
 use Rattle.task_core.specs.declared.acts.Act.TheVariants.{EmptySlots}
-use Rattle.task_steps.specs.declared.table.Slot.{Slot}
 use Rattle.task_steps.specs.declared.table.Tries.{Tries}
 use Rattle.task_steps.specs.declared.table.View.{View}
 use Rattle.task_steps.specs.declared.table.Deed.{Deed}
-use Rattle.task_steps.specs.Rule.{RuleHolds}
+use Rattle.task_steps.specs.Rule.{TaskPlace, RuleHolds}
 use Rattle.task_steps.specs.Attempts.{Names, having_seen}
 use Rattle.task_steps.specs.Attempt.{Attempt, word_after, acts_on, counts_on}
 
@@ -23,6 +22,7 @@ abbrev pub at_least_one : ℕ → ℕ
 at_least_one zero = 1
 at_least_one (suc n) = suc n
 
+-- how many shares are out, by the number in the word
 abbrev pub shares_out : ℕ → ℕ
 shares_out n = at_least_one (handles (state_of n))
 
@@ -31,10 +31,12 @@ abbrev pub is_emptying : Act → Bool
 is_emptying EmptySlots = true
 is_emptying _ = false
 
+-- one of these deeds has emptied the places
 abbrev pub has_emptied : List Deed → Bool
 has_emptied [] = false
 has_emptied (d ∷ earlier) = is_emptying d.act || has_emptied earlier
 
+-- a Runnable, a run or a waker is left
 abbrev pub has_references : State → Bool
 has_references w = nat_lt 0 w.references
 
@@ -44,14 +46,14 @@ counted counts st n = (n == st.first) && counts (state_of n)
 
 module _ {F T A : Type 0} where
   -- whatever the party has seen, each exchange of its attempt brings a share where the change counts
-  abbrev pub MayBring : {Row : Type 0} → ℕ → ℕ → Me (Slot F T A) View → Attempt Row → Type 0
+  abbrev pub MayBring : {Row : Type 0} → ℕ → ℕ → Me (TaskPlace F T A) View → Attempt Row → Type 0
   MayBring limit id me a =
       (t : Option Tries) (w : State) → a.applies limit w ≡ true → Names w t
       → More (RuleHolds {F = F} {T = T} {A = A} limit) shares_out id (having_seen t me.0) (λ n. either (n == number_of w) (number_of (word_after w (acts_on a w))) n)
       (λ n. (n == number_of w) && counts_on a (state_of n))
 
   -- .. and gives one up where the change counts
-  abbrev pub MayGive : {Row : Type 0} → ℕ → ℕ → Me (Slot F T A) View → Attempt Row → Type 0
+  abbrev pub MayGive : {Row : Type 0} → ℕ → ℕ → Me (TaskPlace F T A) View → Attempt Row → Type 0
   MayGive limit id me a =
       (t : Option Tries) (w : State) → a.applies limit w ≡ true → Names w t
       → Less (RuleHolds {F = F} {T = T} {A = A} limit) shares_out id (having_seen t me.0) (λ n. either (n == number_of w) (number_of (word_after w (acts_on a w))) n)

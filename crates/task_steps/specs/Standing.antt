@@ -1,7 +1,7 @@
 -- Where a party stands: between two calls, as a handle, and within one.
 use Rattle.std.specs.Prelude.{ℕ, ◌+◌, Bool, true, false}
 use Rattle.task_laws.specs.declared.positions.Position.{Position}
-use Rattle.task_laws.specs.declared.positions.Position.TheVariants.{At, Deliverer, CallEnding, Answering, FutureInHand, Notifier}
+use Rattle.task_laws.specs.declared.positions.Position.TheVariants.{At, Deliverer, CallEnding, Answering, FutureGone, Notifier}
 use Rattle.task_laws.specs.declared.positions.Position.TheVariants.{AwaiterInHand, Looking, SawOutput, TookOutput, Registrar, UnusedClone}
 use Rattle.task_laws.specs.declared.positions.Position.TheVariants.{Registered, OldAwaiterInHand, TookBack, CloneInHand}
 use Rattle.task_laws.specs.declared.positions.Rest.TheVariants.{Task, Runnable, Waker, Lent, Ended}
@@ -16,18 +16,23 @@ use Rattle.task_laws.specs.declared.positions.WithoutPoll.TheVariants.{DroppedRu
 abbrev pub as_runnable : Position
 as_runnable = At Runnable
 
+-- a waker that has a reference
 abbrev pub as_waker : Position
 as_waker = At Waker
 
+-- a waker that is lent to a call by reference
 abbrev pub as_lent : Position
 as_lent = At Lent
 
+-- a Task that has begun n polls
 abbrev pub as_task : ℕ → Position
 as_task n = At (Task n)
 
+-- a handle that is used up
 abbrev pub as_ended : Position
 as_ended = At Ended
 
+-- a Task between two calls
 abbrev pub is_task : Position → Bool
 is_task (At (Task n)) = true
 is_task _ = false
@@ -48,9 +53,9 @@ handed_over (At Runnable) = CallEnding Nothing Ended
 handed_over (Deliverer woken next) = after_handing_over next
 handed_over p = p
 
--- in which call the awaiter is taken that stands when a future is dropped unpolled
+-- in which call the awaiter is taken that stands when a future was dropped unpolled
 abbrev pub closing_way : Position → NotifyingCall
-closing_way (FutureInHand DroppedRunnable) = OfDrop
+closing_way (FutureGone DroppedRunnable) = OfDrop
 closing_way _ = OfRun
 
 -- the call in which a notifier takes the awaiter, or has it

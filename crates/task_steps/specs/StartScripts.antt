@@ -3,12 +3,12 @@ use Rattle.std.specs.Prelude.{false, List, [], ◌∷◌}
 use Rattle.task_core.specs.Word.{State}
 use Rattle.task_core.specs.Rows.{found}
 use Rattle.task_core.specs.declared.acts.Act.{Act}
-use Rattle.task_core.specs.declared.acts.Act.TheVariants.{TakeUpClosed, StartRun, StartPoll}
+use Rattle.task_core.specs.declared.acts.Act.TheVariants.{TakeUpClosed, DropFuture, StartRun, StartPoll}
 use Rattle.task_steps.specs.Attempt.{Attempt, only}
 
--- a closed task is taken up, to drop its future
+-- a closed task is taken up: its future is dropped next
 abbrev pub taking_up_closed : State → List Act
-taking_up_closed w = TakeUpClosed ∷ []
+taking_up_closed w = TakeUpClosed ∷ DropFuture ∷ []
 
 -- .. or the run starts, and its poll
 abbrev pub to_start_run : Attempt (Unit {0})

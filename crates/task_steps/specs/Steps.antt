@@ -1,6 +1,7 @@
 -- What a step on the word does to the seat that makes it.
 use Rattle.std.specs.Prelude.{◌≡◌, ℕ, Bool, true, false, not, ◌&&◌, ◌||◌, List, [], ◌∷◌, ◌++◌, map, Option, Some, None}
 use Rattle.atomic_table.specs.Table.{Me, rest}
+use Rattle.counted_block.specs.declared.place.Place.TheVariants.{First, Second}
 use Rattle.task_core.specs.Word.{State, is_open}
 use Rattle.task_laws.specs.declared.positions.Position.{Position}
 use Rattle.task_laws.specs.declared.positions.Position.TheVariants.{At, OrphanHolder, Releaser, OldAwaiterInHand, Registered, OutputCloser}
@@ -12,18 +13,18 @@ use Rattle.task_core.specs.Rows.{found, written}
 use Rattle.task_laws.specs.Table.{Slots, Scene, Outcome, leaves_slots, outcome_at}
 use Rattle.task_laws.specs.Holders.{owns_awaiter}
 use Rattle.task_steps.specs.declared.table.Slot.{Slot}
-use Rattle.task_steps.specs.declared.table.Slot.TheVariants.{Empty}
 use Rattle.task_steps.specs.declared.table.Deed.{Deed}
 use Rattle.task_steps.specs.declared.table.Member.{Member}
 use Rattle.task_steps.specs.declared.table.View.{View}
 use Rattle.task_steps.specs.PollScripts.{has_ended}
-use Rattle.task_steps.specs.Rule.{deed, member, view, fresh, found_by, has_work, IsFuture, IsOutput, IsEmpty, IsAwaiter, Waits}
+use Rattle.task_steps.specs.Rule.{TaskPlace, deed, member, view, fresh, found_by, has_work, IsFuture, IsOutput, Waits}
 
 -- the first party of a seat, which is the one that steps
 abbrev pub head_of : List Member → Member
 head_of [] = fresh OrphanHolder
 head_of (u ∷ us) = u
 
+-- the other parties of a seat
 abbrev pub tail_of : List Member → List Member
 tail_of [] = []
 tail_of (u ∷ us) = us
@@ -33,6 +34,7 @@ abbrev pub then_leaves : Outcome → Option Outcome → Option Outcome
 then_leaves o None = None
 then_leaves o (Some x) = Some (record { word = x.word; slots = x.slots; next = x.next; born = o.born ++ x.born; told = x.told ++ o.told })
 
+-- a second outcome, by what the first one left
 abbrev pub and_then : Option Outcome → (Outcome → Option Outcome) → Option Outcome
 and_then None f = None
 and_then (Some o) f = then_leaves o (f o)
@@ -46,6 +48,7 @@ abbrev pub is_lent : Position → Bool
 is_lent (At Lent) = true
 is_lent _ = false
 
+-- the word as a guard of the table reads it: for a lent waker it shows a handle
 abbrev pub held_word : Position → State → State
 held_word p w = record w { task = is_lent p || w.task }
 
@@ -55,10 +58,12 @@ leaves_by limit w slots [] p = Some (leaves_slots (spot limit w slots) w p [] []
 leaves_by limit w slots (a ∷ more) p =
     and_then (outcome_at (spot limit (held_word p w) slots) (written a w) a p) (λ o. leaves_by limit o.word o.slots more o.next)
 
+-- where the party stands then
 abbrev pub next_of : Option Outcome → Position
 next_of None = OrphanHolder
 next_of (Some o) = o.next
 
+-- the parties that were added
 abbrev pub born_of : Option Outcome → List Position
 born_of None = []
 born_of (Some o) = o.born
@@ -79,52 +84,53 @@ acted w slots acts v =
     let u = head_of v.members in let o = leaves_by v.limit w slots acts u.at in
     view v.limit (member (next_of o) (noted w acts u.deeds) ∷ (tail_of v.members ++ map fresh (born_of o)))
 
+-- what a party finds in place 1, which it takes
+abbrev pub Awaits : {A : Type 0} → Position → Option A → Type 0
+Awaits (Releaser hand way) y = Waits hand y
+Awaits (OldAwaiterInHand i old) y = Waits (Some old) y
+Awaits (Registered i) y = Waits None y
+Awaits _ y = (hand : Option ℕ) × Waits hand y
+
 module _ {F T A : Type 0} where
-  -- the places of future and output, that of the future in front, before others; in the output's is nothing
-  abbrev pub future_first : Slot F T A → List (ℕ × Slot F T A) → List (ℕ × Slot F T A)
-  future_first y l = (0, y) ∷ (1, Empty) ∷ l
+  -- place 0 in front, with this value, before others
+  abbrev pub work_first : Slot F T → List (ℕ × TaskPlace F T A) → List (ℕ × TaskPlace F T A)
+  work_first y l = (0, First y) ∷ l
 
-  -- .. that of the output in front; in the future's is nothing
-  abbrev pub output_first : Slot F T A → List (ℕ × Slot F T A) → List (ℕ × Slot F T A)
-  output_first z l = (1, z) ∷ (0, Empty) ∷ l
+  -- .. place 1
+  abbrev pub awaiter_first : Option A → List (ℕ × TaskPlace F T A) → List (ℕ × TaskPlace F T A)
+  awaiter_first y l = (1, Second y) ∷ l
 
-  -- both places are taken for the future
-  abbrev pub TakesFuture : List (ℕ × Slot F T A) → List (ℕ × Slot F T A) → Type 0
-  TakesFuture l l' = (y : Slot F T A) × IsFuture y × (l' ≡ future_first y l)
+  -- place 0 is taken, with the future
+  abbrev pub TakesFuture : List (ℕ × TaskPlace F T A) → List (ℕ × TaskPlace F T A) → Type 0
+  TakesFuture l l' = (y : Slot F T) × IsFuture y × (l' ≡ work_first y l)
 
-  -- .. for the output
-  abbrev pub TakesOutput : List (ℕ × Slot F T A) → List (ℕ × Slot F T A) → Type 0
-  TakesOutput l l' = (z : Slot F T A) × IsOutput z × (l' ≡ output_first z l)
+  -- .. with the output
+  abbrev pub TakesOutput : List (ℕ × TaskPlace F T A) → List (ℕ × TaskPlace F T A) → Type 0
+  TakesOutput l l' = (y : Slot F T) × IsOutput y × (l' ≡ work_first y l)
 
-  -- for which of the two a party takes them
-  abbrev pub Works : Position → List (ℕ × Slot F T A) → List (ℕ × Slot F T A) → Type 0
+  -- for which of the two a party takes it
+  abbrev pub Works : Position → List (ℕ × TaskPlace F T A) → List (ℕ × TaskPlace F T A) → Type 0
   Works OutputCloser l l' = TakesOutput l l'
   Works (TookOutput n) l l' = TakesOutput l l'
   Works (Notifier (OfClaim n)) l l' = TakesOutput l l'
   Works _ l l' = TakesFuture l l'
 
-  -- what a party finds in the place of the awaiter that it takes
-  abbrev pub Awaits : Position → Slot F T A → Type 0
-  Awaits (Releaser hand way) y = Waits hand y
-  Awaits (OldAwaiterInHand i old) y = IsAwaiter y
-  Awaits (Registered i) y = IsEmpty y
-  Awaits _ y = (hand : Option ℕ) × Waits hand y
-
-  -- the places that a party has before and after a step: the work first, then the awaiter
-  abbrev pub Carries : Bool → Bool → Bool → Bool → Position → List (ℕ × Slot F T A) → List (ℕ × Slot F T A) → Type 0
+  -- the places that a party has before and after a step, by whether it has each
+  abbrev pub Carries : Bool → Bool → Bool → Bool → Position → List (ℕ × TaskPlace F T A) → List (ℕ × TaskPlace F T A) → Type 0
   Carries false true b c q l l' = Works q l l'
-  Carries true false b c q l l' = l' ≡ rest (rest l)
-  Carries false false false true q l l' = (y : Slot F T A) × Awaits q y × (l' ≡ (2, y) ∷ l)
-  Carries true true false true q l l' = (y : Slot F T A) × Awaits q y × (l' ≡ (2, y) ∷ l)
+  Carries true false b c q l l' = l' ≡ rest l
+  Carries false false false true q l l' = (y : Option A) × Awaits q y × (l' ≡ awaiter_first y l)
+  Carries true true false true q l l' = (y : Option A) × Awaits q y × (l' ≡ awaiter_first y l)
   Carries false false true false q l l' = l' ≡ rest l
   Carries true true true false q l l' = l' ≡ rest l
   Carries _ _ _ _ q l l' = l' ≡ l
 
-  abbrev pub Carried : Position → Position → List (ℕ × Slot F T A) → List (ℕ × Slot F T A) → Type 0
+  -- the places that a party has before and after a step, by where it stands
+  abbrev pub Carried : Position → Position → List (ℕ × TaskPlace F T A) → List (ℕ × TaskPlace F T A) → Type 0
   Carried p q l l' = Carries (has_work p) (has_work q) (owns_awaiter p) (owns_awaiter q) q l l'
 
   -- the seat made these acts, at this word, which fits them
-  pub record Makes (acts : List Act) (w : State) (m m' : Me (Slot F T A) View) : Type 0 where
+  pub record Makes (acts : List Act) (w : State) (m m' : Me (TaskPlace F T A) View) : Type 0 where
     pub slots : Slots
     pub fits : all_fit m.0.limit w acts ≡ true
     pub viewed : m'.0 ≡ acted w slots acts m.0
@@ -144,9 +150,10 @@ saw test (d ∷ earlier) = leaves_such test d.act d.found || saw test earlier
 abbrev pub saw_over : List Deed → Bool
 saw_over ds = saw (λ w. not (is_open w)) ds
 
+-- the party has seen the task closed, or has closed it
 abbrev pub saw_closed : List Deed → Bool
 saw_closed ds = saw (λ w. w.closed) ds
 
--- .. closed, and without a Runnable or run that has the future
+-- .. and without a Runnable or run that has the future
 abbrev pub saw_ended : List Deed → Bool
 saw_ended ds = saw has_ended ds

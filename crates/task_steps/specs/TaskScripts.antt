@@ -20,6 +20,7 @@ looking_finished w = LookFinished ∷ EndCall ∷ []
 abbrev pub closed_by : State → Cancelled
 closed_by w = if found 0 CancelIdle w then Idle w.awaiter else Busy w.awaiter
 
+-- the task is closed by this row
 abbrev pub closing : Cancelled → List Act
 closing (Idle due) = CancelIdle ∷ []
 closing (Busy due) = CancelBusy ∷ []
@@ -45,6 +46,7 @@ abbrev pub given_up_by : State → Detached
 given_up_by w =
     if found 0 Detach w then Shared else (if found 0 DetachLast w then Last else (if found 0 DetachOrphan w then Orphaned else Unclaimed))
 
+-- the Task is given up by these acts
 abbrev pub detaching : Detached → List Act
 detaching Shared = Detach ∷ EndCall ∷ []
 detaching Last = DetachLast ∷ []
@@ -56,6 +58,7 @@ abbrev pub ends_task : Detached → Bool
 ends_task Shared = true
 ends_task _ = false
 
+-- the Task is given up, whatever the word is
 abbrev pub to_detach : Attempt Detached
 to_detach = record { applies = λ limit w. true; row = given_up_by; acts = detaching; counts = ends_task; ends = no_end; acts_at_end = no_acts }
 

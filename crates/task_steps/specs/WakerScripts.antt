@@ -31,6 +31,7 @@ to_gain = record {
 abbrev pub woken_by : State → Woken
 woken_by w = if found 0 WakeIdle w then Idle else (if found 0 WakeRunning w then Running else Scheduled)
 
+-- the task is woken by these acts
 abbrev pub waking_task : Woken → List Act
 waking_task Idle = WakeIdle ∷ EndCall ∷ []
 waking_task Running = WakeRunning ∷ EndCall ∷ []
@@ -41,6 +42,7 @@ abbrev pub brings_runnable : Woken → Bool
 brings_runnable Idle = true
 brings_runnable _ = false
 
+-- a wake finds that the task is over
 abbrev pub is_over : ℕ → State → Bool
 is_over limit w = found limit WakeOver w
 
@@ -63,6 +65,7 @@ others_left w = found 0 DropWaker w
 abbrev pub dropped_by : State → Dropped
 dropped_by w = if others_left w then Shared else (if is_open w then Orphaned else Last)
 
+-- the acts of that drop
 abbrev pub dropping_as : Dropped → List Act
 dropping_as Shared = DropWaker ∷ EndCall ∷ []
 dropping_as Orphaned = OrphanTask ∷ []

@@ -5,7 +5,7 @@ ghost use Rattle.task_steps.specs.Attempt.{Attempt, next_of, counts_on};
 ghost use Rattle.task_steps.specs.Attempts.{observed, attempted};
 ghost use Rattle.task_steps.specs.Shares.{counted};
 
-use crate::table::{Slot, View};
+use crate::table::{TaskPlace, View};
 use atomic_table::Play;
 use counted_block::CountPlay;
 use task_core::word::Word;
@@ -42,7 +42,7 @@ pub struct Observing<P: Change> {
     change: P,
 }
 
-impl<F, T, A, P: Change> Play<Slot<F, T, A>, View> for Observing<P> {
+impl<F, T, A, P: Change> Play<TaskPlace<F, T, A>, View> for Observing<P> {
     ghost then = { observed P.attempt };
 }
 
@@ -51,10 +51,10 @@ pub struct Attempting<P: Change> {
     change: P,
 }
 
-impl<F, T, A, P: Change> Play<Slot<F, T, A>, View> for Attempting<P> {
+impl<F, T, A, P: Change> Play<TaskPlace<F, T, A>, View> for Attempting<P> {
     ghost then = { attempted P.attempt };
 }
 
-impl<F, T, A, P: Change> CountPlay<Slot<F, T, A>, View> for Attempting<P> {
+impl<F, T, A, P: Change> CountPlay<TaskPlace<F, T, A>, View> for Attempting<P> {
     ghost counts = { counted (counts_on P.attempt) };
 }

@@ -27,21 +27,21 @@ impl Script for ReleasingAwaiter {
     ghost acts = { releasing_awaiter };
 }
 
-/// The awaiter in hand was woken.
+/// The awaiter in hand is woken.
 pub struct Waking;
 
 impl Script for Waking {
     ghost acts = { waking };
 }
 
-/// The awaiter in hand was dropped.
+/// The awaiter in hand is dropped.
 pub struct Dropping;
 
 impl Script for Dropping {
     ghost acts = { dropping };
 }
 
-/// An output that nobody will claim was dropped.
+/// An output that nobody will claim is dropped.
 pub struct DroppingOutput;
 
 impl Script for DroppingOutput {

@@ -16,12 +16,13 @@ pub mod start;
 pub mod table;
 pub mod task;
 pub mod waker;
+pub mod witness;
 
-ghost use Rattle.task_steps.specs.Left.{EmptyAtEnd};
+ghost use Rattle.task_steps.specs.Left.{EmptyAtClose};
 
 pub use script::Knowing;
 
-/// Wherever the rule of a cell's table holds, and no handle and no call is left, nothing lies in its places: neither future, nor output, nor awaiter.
+/// Wherever the rule of a cell's table holds, and a party has emptied the places, as who closes the last share has, nothing lies there: neither future, nor output, nor awaiter.
 pub fn laws<F, T, A>()
-    ensures empty { EmptyAtEnd F T A }
+    ensures empty { EmptyAtClose F T A }
 {}

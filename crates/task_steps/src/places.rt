@@ -1,8 +1,9 @@
 //! What a call has in its hands: values that come out of the places of the block, or go into them.
-ghost use Rattle.std.specs.Prelude.{◌≡◌, ◌<◌, ◌∷◌};
+ghost use Rattle.std.specs.Prelude.{◌≡◌, Option, Some, None};
 ghost use Rattle.atomic_table.specs.Table.{rest};
 ghost use Rattle.task_steps.specs.Rule.{IsOutput};
-ghost use Rattle.task_steps.specs.Held.{awaiter_in, held};
+ghost use Rattle.task_steps.specs.Held.{held};
+ghost use Rattle.task_steps.specs.Steps.{work_first, awaiter_first};
 
 use crate::table::{Block, Kept, Slot, TaskSeat};
 use std::alloc::Allocator;
@@ -31,9 +32,9 @@ impl<T: Drop> Held<T> {
 }
 
 impl<A: Wake> Held<A> {
-    /// Wakes the awaiter, by value.
+    /// Wakes the awaiter, by value. The record of the wake says so, and is dropped.
     pub fn wake(self)
-        ensures { A.woken self.value }
+        ensures { (told : A.Record) × A.woken self.value told }
     {
         let Held { value } = self;
         value.wake();
@@ -57,12 +58,12 @@ impl<F: Yields> Held<Kept<F>> {
     }
 }
 
-/// What lay in a place of the block. It must be spent: it is dropped, or what it is comes into the hands of the call.
-pub struct Content<F, T, A> {
-    slot: Slot<F, T, A>,
+/// What lay in the place of the work. It must be spent: it is dropped, or what it is comes into the hands of the call.
+pub struct Content<F, T> {
+    slot: Slot<F, T>,
 }
 
-impl<F: Drop, T: Drop, A: Drop> Content<F, T, A> {
+impl<F: Drop, T: Drop> Content<F, T> {
     /// Drops what lay there.
     pub fn discard(self) {
         let Content { slot } = self;
@@ -80,73 +81,78 @@ impl<F: Drop, T: Drop, A: Drop> Content<F, T, A> {
         };
         Held { value }
     }
-
-    /// The awaiter that lay there, if it was one.
-    pub fn into_awaiter(self) -> Option<Held<A>>
-        ensures { held result ≡ awaiter_in self.slot }
-    {
-        let Content { slot } = self;
-        match slot {
-            Slot::Awaiter(value) => Some(Held { value }),
-            other => {
-                drop(other);
-                None
-            }
-        }
-    }
 }
 
-/// Leaves nothing in the place that the seat has in front, and answers what lay there.
-pub fn take_out<F, T, A, V, B: Allocator>(
+/// Leaves nothing in the place of the work, which the seat has in front, and answers what lay there.
+pub fn take_work<F, T, A, V, B: Allocator>(
     block: &Block<F, T, A, V, B>,
     seat: &mut TaskSeat<F, T, A>,
-    place: usize,
-) -> Content<F, T, A>
-    requires { (place < 3) × (seat.old.block ≡ block.now.id) × ((old : Slot F T A) × (seat.old.me.1 ≡ (place, old) ∷ rest seat.old.me.1)) }
-    ensures { (seat.new.block ≡ seat.old.block) × (seat.new.id ≡ seat.old.id) × (seat.old.me.1 ≡ (place, result.slot) ∷ rest seat.old.me.1) × (seat.new.me ≡ (seat.old.me.0, (place, Slot.Empty) ∷ rest seat.old.me.1)) }
+) -> Content<F, T>
+    requires { (seat.old.block ≡ block.now.id) × ((old : Slot F T) × (seat.old.me.1 ≡ work_first old (rest seat.old.me.1))) }
+    ensures { (seat.new.block ≡ seat.old.block) × (seat.new.id ≡ seat.old.id) × (seat.old.me.1 ≡ work_first result.slot (rest seat.old.me.1)) × (seat.new.me ≡ (seat.old.me.0, work_first Slot.Empty (rest seat.old.me.1))) }
 {
-    let slot = block.exchange(seat, place, Slot::Empty);
+    let slot = block.swap_first(seat, Slot::Empty);
     Content { slot }
 }
 
-/// Puts the future into its place, which the seat has in front, and answers what lay there.
+/// Puts the future into the place of the work, which the seat has in front, and answers what lay there.
 pub fn put_future<F, T, A, V, B: Allocator>(
     block: &Block<F, T, A, V, B>,
     seat: &mut TaskSeat<F, T, A>,
     future: Held<F>,
-) -> Content<F, T, A>
-    requires { (seat.old.block ≡ block.now.id) × ((old : Slot F T A) × (seat.old.me.1 ≡ (0, old) ∷ rest seat.old.me.1)) }
-    ensures { (seat.new.block ≡ seat.old.block) × (seat.new.id ≡ seat.old.id) × (seat.old.me.1 ≡ (0, result.slot) ∷ rest seat.old.me.1) × (seat.new.me ≡ (seat.old.me.0, (0, Slot.Future future.value) ∷ rest seat.old.me.1)) }
+) -> Content<F, T>
+    requires { (seat.old.block ≡ block.now.id) × ((old : Slot F T) × (seat.old.me.1 ≡ work_first old (rest seat.old.me.1))) }
+    ensures { (seat.new.block ≡ seat.old.block) × (seat.new.id ≡ seat.old.id) × (seat.old.me.1 ≡ work_first result.slot (rest seat.old.me.1)) × (seat.new.me ≡ (seat.old.me.0, work_first (Slot.Future future.value) (rest seat.old.me.1))) }
 {
     let Held { value } = future;
-    let slot = block.exchange(seat, 0, Slot::Future(value));
+    let slot = block.swap_first(seat, Slot::Future(value));
     Content { slot }
 }
 
-/// Puts the output into its place, which the seat has in front, and answers what lay there.
+/// Puts the output into the place of the work, which the seat has in front, and answers what lay there.
 pub fn put_output<F, T, A, V, B: Allocator>(
     block: &Block<F, T, A, V, B>,
     seat: &mut TaskSeat<F, T, A>,
     output: Held<T>,
-) -> Content<F, T, A>
-    requires { (seat.old.block ≡ block.now.id) × ((old : Slot F T A) × (seat.old.me.1 ≡ (1, old) ∷ rest seat.old.me.1)) }
-    ensures { (seat.new.block ≡ seat.old.block) × (seat.new.id ≡ seat.old.id) × (seat.old.me.1 ≡ (1, result.slot) ∷ rest seat.old.me.1) × (seat.new.me ≡ (seat.old.me.0, (1, Slot.Output output.value) ∷ rest seat.old.me.1)) }
+) -> Content<F, T>
+    requires { (seat.old.block ≡ block.now.id) × ((old : Slot F T) × (seat.old.me.1 ≡ work_first old (rest seat.old.me.1))) }
+    ensures { (seat.new.block ≡ seat.old.block) × (seat.new.id ≡ seat.old.id) × (seat.old.me.1 ≡ work_first result.slot (rest seat.old.me.1)) × (seat.new.me ≡ (seat.old.me.0, work_first (Slot.Output output.value) (rest seat.old.me.1))) }
 {
     let Held { value } = output;
-    let slot = block.exchange(seat, 1, Slot::Output(value));
+    let slot = block.swap_first(seat, Slot::Output(value));
     Content { slot }
 }
 
-/// Puts an awaiter into its place, which the seat has in front, and answers what lay there.
+/// Leaves no awaiter in its place, which the seat has in front, and answers the one that lay there.
+pub fn take_awaiter<F, T, A, V, B: Allocator>(
+    block: &Block<F, T, A, V, B>,
+    seat: &mut TaskSeat<F, T, A>,
+) -> Option<Held<A>>
+    requires { (seat.old.block ≡ block.now.id) × ((old : Option A) × (seat.old.me.1 ≡ awaiter_first old (rest seat.old.me.1))) }
+    ensures { (seat.new.block ≡ seat.old.block) × (seat.new.id ≡ seat.old.id) × (seat.old.me.1 ≡ awaiter_first (held result) (rest seat.old.me.1)) × (seat.new.me ≡ (seat.old.me.0, awaiter_first None (rest seat.old.me.1))) }
+{
+    in_hands(block.swap_second(seat, None))
+}
+
+/// Puts an awaiter into its place, which the seat has in front, and answers the one that lay there.
 pub fn put_awaiter<F, T, A, V, B: Allocator>(
     block: &Block<F, T, A, V, B>,
     seat: &mut TaskSeat<F, T, A>,
     awaiter: Held<A>,
-) -> Content<F, T, A>
-    requires { (seat.old.block ≡ block.now.id) × ((old : Slot F T A) × (seat.old.me.1 ≡ (2, old) ∷ rest seat.old.me.1)) }
-    ensures { (seat.new.block ≡ seat.old.block) × (seat.new.id ≡ seat.old.id) × (seat.old.me.1 ≡ (2, result.slot) ∷ rest seat.old.me.1) × (seat.new.me ≡ (seat.old.me.0, (2, Slot.Awaiter awaiter.value) ∷ rest seat.old.me.1)) }
+) -> Option<Held<A>>
+    requires { (seat.old.block ≡ block.now.id) × ((old : Option A) × (seat.old.me.1 ≡ awaiter_first old (rest seat.old.me.1))) }
+    ensures { (seat.new.block ≡ seat.old.block) × (seat.new.id ≡ seat.old.id) × (seat.old.me.1 ≡ awaiter_first (held result) (rest seat.old.me.1)) × (seat.new.me ≡ (seat.old.me.0, awaiter_first (Some awaiter.value) (rest seat.old.me.1))) }
 {
     let Held { value } = awaiter;
-    let slot = block.exchange(seat, 2, Slot::Awaiter(value));
-    Content { slot }
+    in_hands(block.swap_second(seat, Some(value)))
+}
+
+// The value, in the hands of the call.
+fn in_hands<T>(value: Option<T>) -> Option<Held<T>>
+    ensures { held result ≡ value }
+{
+    match value {
+        Some(value) => Some(Held { value }),
+        None => None,
+    }
 }

@@ -35,14 +35,14 @@ impl Script for Emptying {
     ghost acts = { emptying };
 }
 
-/// A Runnable that is dropped closes the task.
+/// A Runnable that is dropped closes the task, and its future is dropped next.
 pub struct Discarding;
 
 impl Script for Discarding {
     ghost acts = { discarding };
 }
 
-/// The poll of the future has answered Ready.
+/// The poll of the future has answered Ready, and the future is dropped next.
 pub struct AnsweringReady;
 
 impl Script for AnsweringReady {

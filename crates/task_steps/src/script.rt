@@ -4,7 +4,7 @@ ghost use Rattle.std.specs.Prelude.{List, Bool};
 ghost use Rattle.task_core.specs.Word.{State, state_of};
 ghost use Rattle.task_core.specs.declared.acts.Act.{Act};
 
-use crate::table::{Slot, View};
+use crate::table::{TaskPlace, View};
 use atomic_table::Play;
 use counted_block::CountPlay;
 
@@ -23,10 +23,10 @@ pub struct Knowing<P: Script> {
     script: P,
 }
 
-impl<F, T, A, P: Script> Play<Slot<F, T, A>, View> for Knowing<P> {
+impl<F, T, A, P: Script> Play<TaskPlace<F, T, A>, View> for Knowing<P> {
     ghost then = { known P.acts };
 }
 
-impl<F, T, A, P: Giving> CountPlay<Slot<F, T, A>, View> for Knowing<P> {
+impl<F, T, A, P: Giving> CountPlay<TaskPlace<F, T, A>, View> for Knowing<P> {
     ghost counts = { λ _ n. P.gives (state_of n) };
 }

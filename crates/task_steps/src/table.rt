@@ -1,11 +1,10 @@
-//! The table of a cell: its one word, its slots, and what a seat knows.
+//! The table of a cell: its one word, its places, and what a seat knows.
 ghost use Rattle.std.specs.Prelude.{◌≡◌, ◌<◌, ◌^◌, [], true, IfOk, IfErr};
 ghost use Rattle.task_core.specs.Poll.{IfReady};
 ghost use Rattle.task_steps.specs.Rule.{laid_view, IsFuture};
 ghost use Rattle.task_steps.specs.Seats.{is_spent};
 
-use atomic_table::TableRule;
-use counted_block::{Bare, BlockRule, Hold, Inner, Ledger, MaybeShare, Seat, Share};
+use counted_block::{Bare, BlockRule, Hold, Inner, Ledger, MaybeShare, Place, Seat, Share};
 use std::alloc::{AllocFailed, Allocator};
 use std::collections::LinkedList;
 use task_core::acts::Act;
@@ -13,17 +12,15 @@ use task_core::word::{REFERENCE, SCHEDULED, TASK, Word};
 use task_core::{Future, Poll, Yields};
 use task_laws::positions::Position;
 
-/// What lies in a slot of the table.
+/// What lies in the place of the work, which is the first.
 #[derive(Drop)]
-pub enum Slot<F, T, A> {
+pub enum Slot<F, T> {
     /// Nothing.
     Empty,
     /// The future, until it is dropped.
     Future(F),
     /// The output, until it is handed out or dropped.
     Output(T),
-    /// The awaiter of a poll of the Task.
-    Awaiter(A),
 }
 
 /// An output, and that it meets what its future's type states.
@@ -83,39 +80,39 @@ pub struct View {
 /// The rule of the table: there is an interleaving of the machine that ends in the present word.
 pub struct Law;
 
-impl<F, T, A> TableRule<Slot<F, T, A>, View, u64> for Law {
+impl<F, T, A> BlockRule<Slot<F, T>, Option<A>, View, u64> for Law {
     ghost use Rattle.task_steps.specs.Rule.{RuleHolds, laid_view};
+    ghost use Rattle.task_steps.specs.Shares.{shares_out};
 
     ghost holds = { RuleHolds };
 
     ghost first = { laid_view };
-}
-
-impl<F, T, A> BlockRule<Slot<F, T, A>, View, u64> for Law {
-    ghost use Rattle.task_steps.specs.Shares.{shares_out};
 
     ghost out = { shares_out };
 }
 
-/// A share of a task's block: one word, a place each for the future, the output and the awaiter, and what all handles see.
-pub type Block<F, T, A, V, B> = Share<Slot<F, T, A>, View, u64, Law, V, B>;
+/// What lies in a place of a task's block, as contracts see it: the work in the first, an awaiter or none in the second.
+pub type TaskPlace<F, T, A> = Place<Slot<F, T>, Option<A>>;
+
+/// A share of a task's block: one word, a place for the future and then the output, one for the awaiter, and what all handles see.
+pub type Block<F, T, A, V, B> = Share<Slot<F, T>, Option<A>, View, u64, Law, V, B>;
 
 /// A share that a step may have made or left.
-pub type MaybeBlock<F, T, A, V, B> = MaybeShare<Slot<F, T, A>, View, u64, Law, V, B>;
+pub type MaybeBlock<F, T, A, V, B> = MaybeShare<Slot<F, T>, Option<A>, View, u64, Law, V, B>;
 
 /// A hold of a task's block.
-pub type BlockHold<F, T, A, V, B> = Hold<Slot<F, T, A>, View, u64, Law, V, B>;
+pub type BlockHold<F, T, A, V, B> = Hold<Slot<F, T>, Option<A>, View, u64, Law, V, B>;
 
 /// What is left of a share for its seats.
-pub type BlockLedger<F, T, A, V, B> = Ledger<Slot<F, T, A>, View, u64, Law, V, B>;
+pub type BlockLedger<F, T, A, V, B> = Ledger<Slot<F, T>, Option<A>, View, u64, Law, V, B>;
 
 /// The seat of a task's block.
-pub type TaskSeat<F, T, A> = Seat<Slot<F, T, A>, View>;
+pub type TaskSeat<F, T, A> = Seat<Slot<F, T>, Option<A>, View>;
 
 /// The word of a task that was just spawned: scheduled, with its Task, and one reference.
 const OPENING: u64 = SCHEDULED | TASK | REFERENCE;
 
-/// A block with the opening word and three empty places: the shares of the Runnable and of the Task, and its first seat. It is one allocation.
+/// A block with the opening word and two empty places: the shares of the Runnable and of the Task, and its first seat. It is one allocation.
 /// `alloc` is the allocator, `value` what all handles see, and `limit` the limit of references. Where memory is refused, the value is given back.
 pub fn lay<F, T, A, V: Drop, B: Allocator>(
     alloc: B,
@@ -143,8 +140,7 @@ where
         word: OPENING,
         holds: 0,
         first: Slot::Empty,
-        second: Slot::Empty,
-        third: Slot::Empty,
+        second: None,
         value,
     };
     match Box::new(alloc, inner) {
@@ -153,8 +149,8 @@ where
     }
 }
 
-/// Polls the future once, where it lies, in a slot that has one. `waker` is what the poll is lent.
-pub fn polled<W, F: Future<W>, A>(slot: &mut Slot<F, Kept<F>, A>, waker: &W) -> Poll<F::Output>
+/// Polls the future once, where it lies, in a place that has one. `waker` is what the poll is lent.
+pub fn polled<W, F: Future<W>>(slot: &mut Slot<F, Kept<F>>, waker: &W) -> Poll<F::Output>
     requires { IsFuture slot.old }
     ensures meets { IfReady result F.Yields.meets }
     ensures once { (f : F) × (g : F) × (slot.old ≡ Slot.Future f) × (slot.new ≡ Slot.Future g) × F.polled f waker.now result g }
@@ -166,7 +162,7 @@ pub fn polled<W, F: Future<W>, A>(slot: &mut Slot<F, Kept<F>, A>, waker: &W) -> 
 }
 
 /// Lets a seat go that nobody will step with again, and that has no place of the table: it was laid only, or its one party has ended, or was lent for a call and has made one.
-pub fn discard<F, T, A>(seat: Seat<Slot<F, T, A>, View>)
+pub fn discard<F, T, A>(seat: TaskSeat<F, T, A>)
     requires spent { is_spent seat.me.0 ≡ true }
     requires places { seat.me.1 ≡ [] }
 {

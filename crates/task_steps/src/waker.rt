@@ -6,7 +6,7 @@ ghost use Rattle.task_steps.specs.Beside.{borrowing, without_newest, newest};
 
 use crate::attempt::Change;
 use crate::script::{Giving, Script};
-use crate::table::{Slot, View};
+use crate::table::{TaskPlace, View};
 use atomic_table::{Play, Split};
 use task_core::acts::Act::{
     DropWaker, GainReference, GiveUpReference, WakeIdle, WakeRunning, WakeScheduled,
@@ -16,7 +16,7 @@ use task_core::word::Word;
 /// Who has a waker by reference gets a party of its own, by a seat of its own.
 pub struct Borrowing;
 
-impl<F, T, A> Play<Slot<F, T, A>, View> for Borrowing {
+impl<F, T, A> Play<TaskPlace<F, T, A>, View> for Borrowing {
     ghost then = { borrowing };
 }
 

@@ -42,10 +42,10 @@ pub fn wake_into_drop<R: Wait + Drop + Copy>(
     let Ok((runnable, mut task)) = fixture.spawn_bare(Behaviour::Pending) else {
         return Err(AllocError);
     };
-    let Some(waker) = runnable.waker() else {
+    let Ok(waker) = runnable.waker() else {
         return Err(AllocError);
     };
-    let rescheduled = runnable.run();
+    let (rescheduled, _) = runnable.run();
     waker.wake_by_ref();
     let finished = task.is_finished();
     waker.wake();

@@ -203,7 +203,7 @@ impl<'x, R: Wait + Drop + Copy> Hands<'x, R> {
 
     fn waker(&mut self) -> bool {
         let made = match &self.runnable {
-            Some(runnable) => runnable.waker(),
+            Some(runnable) => runnable.waker().ok(),
             None => None,
         };
         self.keep_waker(made)
@@ -211,7 +211,7 @@ impl<'x, R: Wait + Drop + Copy> Hands<'x, R> {
 
     fn is_waker_refused(&self) -> bool {
         match &self.runnable {
-            Some(runnable) => runnable.waker().is_none(),
+            Some(runnable) => runnable.waker().is_err(),
             None => false,
         }
     }
@@ -251,7 +251,7 @@ impl<'x, R: Wait + Drop + Copy> Hands<'x, R> {
 
     fn clone_waker(&mut self) -> bool {
         let clone = match self.wakers.back() {
-            Some(waker) => waker.try_clone(),
+            Some(waker) => waker.try_clone().ok(),
             None => None,
         };
         self.keep_waker(clone)
@@ -259,7 +259,7 @@ impl<'x, R: Wait + Drop + Copy> Hands<'x, R> {
 
     fn is_clone_refused(&self) -> bool {
         match self.wakers.back() {
-            Some(waker) => waker.try_clone().is_none(),
+            Some(waker) => waker.try_clone().is_err(),
             None => false,
         }
     }

@@ -1,4 +1,4 @@
-//! The rows that are run by steps. In the last seven a second thread acts while a poll is under way.
+//! The rows that are run by steps. In the last seven a second thread runs, and the first one acts during its poll.
 
 use crate::script::Script;
 use crate::step::Answer::*;
@@ -7,7 +7,7 @@ use crate::step::Step;
 use crate::step::Step::*;
 use rows_fixtures::behaviour::Behaviour;
 
-// No second thread acts.
+// There is no second thread.
 const ALONE: Script = Script {
     steps: &[],
     beside: &[],
@@ -403,7 +403,7 @@ pub const DROP_IN_POLL: &Script = &Script {
     ..ALONE
 };
 
-/// The second thread wakes the task while it is polled: the run schedules its Runnable once more.
+/// The first thread wakes the task while it is polled: the run schedules its Runnable once more.
 pub const WAKE_DURING_RUN: &Script = &Script {
     steps: &[Spawn(Behaviour::Pending), Waker],
     beside: &[WakeByRef],
@@ -411,7 +411,7 @@ pub const WAKE_DURING_RUN: &Script = &Script {
     after: &[Told(&[true])],
 };
 
-/// The second thread drops the Task while the future is polled: the run drops the future, and nothing is scheduled.
+/// The first thread drops the Task while the future is polled: the run drops the future, and nothing is scheduled.
 pub const CANCEL_DURING_RUN: &Script = &Script {
     steps: &[
         Spawn(Behaviour::KeepPending),
@@ -439,7 +439,7 @@ const WOKEN: &[Step] = &[
     Receive,
 ];
 
-/// The second thread wakes the task while the future is polled, and then drops the Task: the run drops the future.
+/// The first thread wakes the task while the future is polled, and then drops the Task: the run drops the future.
 pub const WAKE_AND_CANCEL: &Script = &Script {
     steps: WOKEN,
     beside: &[Wake, Counted(2, 1, 0, 0), DropTask, Counted(2, 1, 0, 0)],
@@ -447,7 +447,7 @@ pub const WAKE_AND_CANCEL: &Script = &Script {
     after: &[TakeStored, DropWaker],
 };
 
-/// The second thread drops the Task while the future is polled, and then wakes: the run drops the future.
+/// The first thread drops the Task while the future is polled, and then wakes: the run drops the future.
 pub const CANCEL_AND_WAKE: &Script = &Script {
     steps: WOKEN,
     beside: &[DropTask, Counted(2, 1, 0, 0), Wake, Counted(2, 1, 0, 0)],
@@ -455,7 +455,7 @@ pub const CANCEL_AND_WAKE: &Script = &Script {
     after: &[TakeStored, DropWaker],
 };
 
-/// The second thread detaches the Task while the future is polled: the run drops the output.
+/// The first thread detaches the Task while the future is polled: the run drops the output.
 pub const DETACH_DURING_RUN: &Script = &Script {
     steps: &[Spawn(Behaviour::Ready(1))],
     beside: &[Detach, Counted(1, 0, 0, 0), OutputsDropped(0)],
@@ -463,7 +463,7 @@ pub const DETACH_DURING_RUN: &Script = &Script {
     after: &[OutputsDropped(1)],
 };
 
-/// The second thread drops the Task while the future is polled, which then answers ready: the run drops the output.
+/// The first thread drops the Task while the future is polled, which then answers ready: the run drops the output.
 pub const DROP_DURING_RUN: &Script = &Script {
     steps: &[Spawn(Behaviour::Ready(1))],
     beside: &[DropTask, Counted(1, 0, 0, 0), OutputsDropped(0)],
@@ -471,7 +471,7 @@ pub const DROP_DURING_RUN: &Script = &Script {
     after: &[OutputsDropped(1)],
 };
 
-/// The second thread polls the Task while the future is polled: the run wakes the awaiter, and a second poll gets the output.
+/// The first thread polls the Task while the future is polled: the run wakes the awaiter, and a second poll gets the output.
 pub const POLL_DURING_RUN: &Script = &Script {
     steps: &[Spawn(Behaviour::Ready(1))],
     beside: &[Poll(First, Waits), Woken(First, 0)],

@@ -34,9 +34,11 @@ impl<R: Wait + Drop + Copy> Bell<R> {
 }
 
 impl<R: Wait + Drop + Copy> Wake for Bell<R> {
-    ghost woken = { λ _. ⊤ };
+    type Record = ();
 
-    ghost woken_by_ref = { λ _. ⊤ };
+    ghost woken = { λ _ _. ⊤ };
+
+    ghost woken_by_ref = { λ _ _. ⊤ };
 
     ghost cloned = { λ _ _. ⊤ };
 
@@ -51,9 +53,11 @@ impl<R: Wait + Drop + Copy> Wake for Bell<R> {
         self.rung.rings.notify_one();
     }
 
-    fn try_clone(&self) -> Option<Bell<R>> {
-        let rung = Arc::try_clone(&self.rung).ok()?;
-        Some(Bell { rt: self.rt, rung })
+    fn try_clone(&self) -> Result<Bell<R>, ()> {
+        let Ok(rung) = Arc::try_clone(&self.rung) else {
+            return Err(());
+        };
+        Ok(Bell { rt: self.rt, rung })
     }
 
     fn will_wake(&self, _other: &Bell<R>) -> bool {

@@ -133,6 +133,19 @@ fn a_receiver_that_goes_leaves_no_message_and_hands_sends_back(rt: HostRuntime) 
     assert!(rt; woken == (1, 0));
 }
 
+// A sender is cloned where the receivers are gone, a receiver where the senders are.
+#[test]
+fn an_end_is_cloned_where_the_other_side_is_gone(rt: HostRuntime) {
+    let (sender, receiver): Ends<HostRuntime, u64> = ends(rt, rt.alloc(), 1);
+    drop(receiver);
+    let more = sender.try_clone().map(|sender| sender.try_send(7));
+    let (sender, receiver): Ends<HostRuntime, u64> = ends(rt, rt.alloc(), 1);
+    drop(sender);
+    let others = receiver.try_clone().map(|receiver| receiver.try_receive());
+    assert!(rt; more == Some(Err(TrySendError::Closed(7))));
+    assert!(rt; others == Some(Err(TryReceiveError::Closed)));
+}
+
 // Both receivers wait when the last sender goes.
 #[test]
 fn the_last_sender_that_goes_wakes_all_receivers(rt: HostRuntime) {

@@ -48,9 +48,11 @@ impl Counter {
 }
 
 impl Wake for Counter {
-    ghost woken = { λ _. ⊤ };
+    type Record = ();
 
-    ghost woken_by_ref = { λ _. ⊤ };
+    ghost woken = { λ _ _. ⊤ };
+
+    ghost woken_by_ref = { λ _ _. ⊤ };
 
     ghost cloned = { λ _ _. ⊤ };
 
@@ -64,12 +66,14 @@ impl Wake for Counter {
         self.wakes.fetch_add(1, Ordering::SeqCst);
     }
 
-    fn try_clone(&self) -> Option<Counter> {
+    fn try_clone(&self) -> Result<Counter, ()> {
         if !self.clones {
-            return None;
+            return Err(());
         }
-        let wakes = Arc::try_clone(&self.wakes).ok()?;
-        Some(Counter {
+        let Ok(wakes) = Arc::try_clone(&self.wakes) else {
+            return Err(());
+        };
+        Ok(Counter {
             wakes,
             clones: true,
         })

@@ -35,7 +35,7 @@ pub fn new_gate<R: Abort, W: Wake>(rt: &R, alloc: Global) -> Arc<Gate<W>> {
 impl<W: Wake> Gate<W> {
     /// A clone of the waker of the first poll. `None` where there was none, or no clone is to be had.
     pub fn waker<R: Wait>(&self, rt: &R) -> Option<W> {
-        self.waiting.lock(rt).waker.as_ref()?.try_clone()
+        self.waiting.lock(rt).waker.as_ref()?.try_clone().ok()
     }
 
     /// Opens the gate, and wakes nobody.
@@ -96,7 +96,7 @@ impl<R: Wait + Drop + Copy, W: Wake> Future<W> for Passes<R, W> {
             return Poll::Ready(self.answer);
         }
         if waiting.waker.is_none() {
-            waiting.waker = waker.try_clone();
+            waiting.waker = waker.try_clone().ok();
         }
         Poll::Pending
     }

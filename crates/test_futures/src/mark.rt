@@ -9,9 +9,11 @@ use task_core::Wake;
 pub struct Mark<'a>(pub &'a AtomicU64);
 
 impl<'a> Wake for Mark<'a> {
-    ghost woken = { λ _. ⊤ };
+    type Record = ();
 
-    ghost woken_by_ref = { λ _. ⊤ };
+    ghost woken = { λ _ _. ⊤ };
+
+    ghost woken_by_ref = { λ _ _. ⊤ };
 
     ghost cloned = { λ _ _. ⊤ };
 
@@ -25,8 +27,8 @@ impl<'a> Wake for Mark<'a> {
         self.0.fetch_add(1, Ordering::SeqCst);
     }
 
-    fn try_clone(&self) -> Option<Mark<'a>> {
-        Some(*self)
+    fn try_clone(&self) -> Result<Mark<'a>, ()> {
+        Ok(*self)
     }
 
     fn will_wake(&self, _other: &Mark<'a>) -> bool {

@@ -68,9 +68,9 @@ fn a_refused_push_hands_the_item_back(rt: HostRuntime) {
     let pushed = crew.push(&rt, 0, 5);
     let all = pop_four(&rt, &crew);
     drop(crew);
-    assert!(rt; two && refused == Err(3) && left == [Some(1), Some(2), None, None]);
-    assert!(rt; two_again && refused_again == Err(4));
-    assert!(rt; pushed == Ok(()) && all == [Some(1), Some(2), Some(5), None]);
+    assert!(rt; two && refused.err() == Some(3) && left == [Some(1), Some(2), None, None]);
+    assert!(rt; two_again && refused_again.err() == Some(4));
+    assert!(rt; pushed.is_ok() && all == [Some(1), Some(2), Some(5), None]);
     assert!(rt; heap.used() == 0);
 }
 
@@ -81,7 +81,10 @@ fn push_and_ring<R: Wait>(rt: &R, board: &HeapBoard<'_>, item: u64) -> (Result<(
     if let Some(woken) = woken {
         board.ring(woken);
     }
-    (pushed, wakes)
+    match pushed {
+        Ok(_) => (Ok(()), wakes),
+        Err(back) => (Err(back), wakes),
+    }
 }
 
 // The worker counts as asleep beside a full queue, so the push makes it awake, though the queue is refused memory.
@@ -112,7 +115,7 @@ fn lie_down_and_push<R: Wait>(
 ) -> Option<(Result<(), u64>, bool)>
     requires { IsClaim bells.now claim.now }
 {
-    match bells.lie_down(rt, bells.look(), claim) {
+    match bells.lie_down(rt, None, claim) {
         Ok(sleeper) => {
             let third = push_and_ring(rt, board, 3);
             bells.settle(bells.get_up(sleeper));

@@ -52,8 +52,8 @@ impl Storm {
         add(&self.pushed, item);
         let is_pushed = self.crew.push(rt, queue, item).is_ok();
         match dice.draw(16) {
-            0 => self.crew.bells().interrupt(),
-            1 => self.crew.bells().interrupt_worker(queue),
+            0 => drop(self.crew.bells().interrupt()),
+            1 => drop(self.crew.bells().interrupt_worker(queue)),
             _ => (),
         }
         is_pushed
@@ -108,7 +108,7 @@ impl Storm {
             }
             match self.crew.find(rt, worker) {
                 Some(item) => add(&self.taken, item),
-                None => self.crew.rest(rt, worker, interruptions, &NoLimit),
+                None => drop(self.crew.rest(rt, worker, interruptions, &NoLimit)),
             }
             dice.delay(rt);
         }

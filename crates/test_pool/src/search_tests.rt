@@ -77,9 +77,17 @@ fn pay(bells: &Bells, look: Look) -> usize
     }
 }
 
+// Looks that are owed, as worker 2 leaves.
+fn look<R: Abort>(rt: &R, bells: &Bells) -> Look
+    ensures { result.place.seat.table_id ≡ bells.now.table.shared.table_id }
+{
+    let claim = bells.claim(2).expect(rt, "refused");
+    bells.give_back(claim)
+}
+
 // Whether a worker may begin a search. It ends at once.
 fn may_search(bells: &Bells) -> bool {
-    match bells.begin_search(bells.look()) {
+    match bells.begin_search(None) {
         Ok(search) => {
             bells.settle(bells.end_search(search));
             true
@@ -94,7 +102,7 @@ fn may_search(bells: &Bells) -> bool {
 #[test]
 fn one_worker_searches_at_a_time(rt: HostRuntime) {
     let bells = bells_of(&rt, rt.alloc(), 2);
-    let search = allowed(&rt, bells.begin_search(bells.look()));
+    let search = allowed(&rt, bells.begin_search(None));
     let beside = may_search(&bells);
     bells.settle(bells.end_search(search));
     let after = may_search(&bells);
@@ -107,12 +115,12 @@ fn a_push_wakes_nobody_while_one_searches(rt: HostRuntime) {
     let bells = bells_of(&rt, rt.alloc(), 2);
     let board = board_of(&rt, rt.alloc(), &bells);
     let claim = bells.claim(1).expect(&rt, "refused");
-    let sleeper = allowed(&rt, bells.lie_down(&rt, bells.look(), &claim));
-    let search = allowed(&rt, bells.begin_search(bells.look()));
+    let sleeper = allowed(&rt, bells.lie_down(&rt, None, &claim));
+    let search = allowed(&rt, bells.begin_search(None));
     let during = push(&rt, &board, 2);
     let taken = pop(&rt, &board, 2);
     let ended = pay(&bells, bells.end_search(search));
-    let search = allowed(&rt, bells.begin_search(bells.look()));
+    let search = allowed(&rt, bells.begin_search(None));
     let again = push(&rt, &board, 0);
     let left = pay(&bells, bells.end_search(search));
     bells.settle(bells.get_up(sleeper));
@@ -128,8 +136,8 @@ fn each_push_wakes_one_of_two_sleepers(rt: HostRuntime) {
     let board = board_of(&rt, rt.alloc(), &bells);
     let first = bells.claim(0).expect(&rt, "refused");
     let second = bells.claim(1).expect(&rt, "refused");
-    let one = allowed(&rt, bells.lie_down(&rt, bells.look(), &first));
-    let other = allowed(&rt, bells.lie_down(&rt, bells.look(), &second));
+    let one = allowed(&rt, bells.lie_down(&rt, None, &first));
+    let other = allowed(&rt, bells.lie_down(&rt, None, &second));
     let woken = (
         push(&rt, &board, 2),
         push(&rt, &board, 2),
@@ -148,11 +156,11 @@ fn an_interruption_is_due_until_it_is_heard(rt: HostRuntime) {
     let bells = bells_of(&rt, rt.alloc(), 2);
     let claim = bells.claim(0).expect(&rt, "refused");
     bells.interrupt();
-    let mut sleeper = allowed(&rt, bells.lie_down(&rt, bells.look(), &claim));
+    let mut sleeper = allowed(&rt, bells.lie_down(&rt, None, &claim));
     let sees = bells.sees_something(&mut sleeper);
     bells.settle(bells.get_up(sleeper));
     bells.interrupt_worker(0);
-    let lies = match bells.lie_down(&rt, bells.look(), &claim) {
+    let lies = match bells.lie_down(&rt, None, &claim) {
         Ok(sleeper) => {
             bells.settle(bells.get_up(sleeper));
             true
@@ -223,14 +231,14 @@ fn wakes_of_two_looks<R: Wait + Abort>(
 ) -> (usize, usize) {
     let bells = crew.bells();
     let claim = bells.claim(1).expect(rt, "refused");
-    let sleeper = allowed(rt, bells.lie_down(rt, bells.look(), &claim));
+    let sleeper = allowed(rt, bells.lie_down(rt, None, &claim));
     worker.pay();
-    let first = pay(bells, bells.look());
+    let first = pay(bells, look(rt, bells));
     bells.settle(bells.get_up(sleeper));
     crew.rest(rt, worker, bells.interruptions(), &NoLimit);
-    let sleeper = allowed(rt, bells.lie_down(rt, bells.look(), &claim));
+    let sleeper = allowed(rt, bells.lie_down(rt, None, &claim));
     worker.pay();
-    let second = pay(bells, bells.look());
+    let second = pay(bells, look(rt, bells));
     bells.settle(bells.get_up(sleeper));
     bells.settle(bells.give_back(claim));
     (first, second)
@@ -239,9 +247,9 @@ fn wakes_of_two_looks<R: Wait + Abort>(
 // The second look finds nobody who is still asleep.
 #[test]
 fn a_worker_that_pays_wakes_another_one_if_it_owes_a_look(rt: HostRuntime) {
-    let crew = Crew::new(rt.alloc(), rt.alloc(), 2, ROOM).expect(&rt, "refused");
+    let crew = Crew::new(rt.alloc(), rt.alloc(), 3, ROOM).expect(&rt, "refused");
     let mut worker = crew.worker(rt.alloc(), 0).expect(&rt, "refused");
-    let pushed = crew.push(&rt, 2, 5u64).is_ok();
+    let pushed = crew.push(&rt, 3, 5u64).is_ok();
     let woken = wakes_of_two_looks(&rt, &crew, &mut worker);
     let found = crew.find(&rt, &mut worker);
     drop(crew.end_turns(&rt, worker));

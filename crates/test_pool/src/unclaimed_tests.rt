@@ -85,8 +85,8 @@ fn rest_after<R: Wait + Clock>(
     let interruptions = crew.bells().interruptions();
     match before {
         Before::Nothing => (),
-        Before::ForAny => crew.bells().interrupt(),
-        Before::ForTheWorker => crew.bells().interrupt_worker(0),
+        Before::ForAny => drop(crew.bells().interrupt()),
+        Before::ForTheWorker => drop(crew.bells().interrupt_worker(0)),
     }
     let Ok(begin) = Instant::now(rt) else {
         return u128::MAX;

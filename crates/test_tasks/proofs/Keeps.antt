@@ -7,6 +7,7 @@ use prog.Atomic.{either}
 use Rattle.std.specs.Prelude.{MatchBool}
 use Rattle.atomic_table.specs.Table.{State, Act, Me, step, stepped, keeps, Valid, Allows, Enters}
 use Rattle.atomic_table.proofs.Lists.{at_set, at_snoc}
+use Rattle.counted_block.specs.declared.place.Place.{Place}
 use Rattle.counted_block.specs.Blocks.{word_of}
 use Rattle.counted_block.specs.Counts.{More, Less, Last}
 use Rattle.test_tasks.specs.declared.blocks.law.View.{View}
@@ -14,7 +15,7 @@ use Rattle.test_tasks.specs.Counting.{view, total, shares_out, Agrees, Entered, 
 use mathlib.Core.Option as maybe
 
 abbrev U : Type 0
-U = Unit {0}
+U = Place (Unit {0}) (Unit {0})
 
 total_set : (vs : List View) (i : ℕ) (v w : View) → get_elem? vs i ≡ some v → total (slice_set vs i w) + v.owners ≡ total vs + w.owners
 total_set [] i v w at = absurd (some-ne-none v (sym at))
@@ -41,8 +42,8 @@ out_some (suc n) p = refl
 is_not_last : (v w : View) → v ≡ w → v.last ≡ false → w.last ≡ true → ⊥
 is_not_last v w same counted last = true≢false (sym last ∙ sym (ap (λ (x : View). x.last) same) ∙ counted)
 
-pub enters : (before : Me U View) → Enters {S = U} Agrees 3 0 (λ n w. Entered (step 3 0 0 0 maybe.none) before n (w, []))
-enters before s h three small = let t = total_snoc s.views (view 0 false) in let sum = h.1 in (
+pub enters : (before : Me U View) → Enters {S = U} Agrees 2 0 (λ n w. Entered (step 2 0 0 0 maybe.none) before n (w, []))
+enters before s h two small = let t = total_snoc s.views (view 0 false) in let sum = h.1 in (
   view 0 false,
   (
     h.0,
@@ -88,14 +89,14 @@ module _ (id : ℕ) (me : Me U View) (old : ℕ) (guest : me.0 ≡ view 0 false)
         refl,
       )
 
-  pub gains : Allows Agrees 3 id me 0 f (Gained (step 3 0 old (old + 1) maybe.none) me)
-  gains s h three at small = goes s h at (eqb (word_of s) old) refl
+  pub gains : Allows Agrees 2 id me 0 f (Gained (step 2 0 old (old + 1) maybe.none) me)
+  gains s h two at small = goes s h at (eqb (word_of s) old) refl
 
   grows_by : (n : ℕ) (y : Bool) → eqb n old ≡ y → (y ≡ false) × (shares_out (either y (old + 1) n) ≡ shares_out n) ⊎ (y ≡ true) × (shares_out (either y (old + 1) n) ≡ shares_out n + 1) × (shares_out n + 1 < 4611686018427387904)
   grows_by n false e = inl (refl, refl)
   grows_by n true e = let is : n ≡ old = eqb→eq n old (subst lib.Dec.T (sym e) tt) in let o = out_some n (omega arith) in let o' = out_some (old + 1) (omega arith) in inr (refl, omega arith, omega arith)
 
-  pub grows : More {S = U} Agrees shares_out id me.0 f (gains_share {S = U} (step 3 0 old (old + 1) maybe.none))
+  pub grows : More {S = U} Agrees shares_out id me.0 f (gains_share {S = U} (step 2 0 old (old + 1) maybe.none))
   grows s h at = grows_by (word_of s) (eqb (word_of s) old) refl
 
 abbrev less : ℕ → ℕ
@@ -105,8 +106,8 @@ module _ (id : ℕ) (me : Me U View) (mine : me.0 ≡ view 1 false) where
   has_one : (s : State U View) → Agrees s → get_elem? s.views id ≡ some me.0 → 0 < word_of s
   has_one s h at = let t = total_at s.views id me.0 at in let e : me.0.owners ≡ 1 = ap (λ (x : View). x.owners) mine in let sum = h.1 in omega arith
 
-  pub parts : Allows Agrees 3 id me 0 less (Parted (step 3 0 1 0 maybe.none) me)
-  parts s h three at small = let n = word_of s in let some_one = has_one s h at in let w = view 0 (eqb n 1) in let now = first_set s.words (less n) h.0 in let sum = h.1 in let most = h.3 in
+  pub parts : Allows Agrees 2 id me 0 less (Parted (step 2 0 1 0 maybe.none) me)
+  parts s h two at small = let n = word_of s in let some_one = has_one s h at in let w = view 0 (eqb n 1) in let now = first_set s.words (less n) h.0 in let sum = h.1 in let most = h.3 in
       let e : me.0.owners ≡ 1 = ap (λ (x : View). x.owners) mine in let t = total_set s.views id me.0 w at in let one_less : less n ≡ n - 1 = omega arith in (
         w,
         keeps,
@@ -132,7 +133,7 @@ module _ (id : ℕ) (me : Me U View) (mine : me.0 ≡ view 1 false) where
       above (suc zero) p more = absurd (more refl)
       above (suc (suc n)) p more = omega arith
 
-  pub fewer : Less {S = U} Agrees shares_out id me.0 less (parts_share {S = U} (step 3 0 1 0 maybe.none))
+  pub fewer : Less {S = U} Agrees shares_out id me.0 less (parts_share {S = U} (step 2 0 1 0 maybe.none))
   fewer s h at = let most = h.3 in fewer_by (word_of s) (has_one s h at) (omega arith) (eqb (word_of s) 1) refl
 
 pub lasts : (id : ℕ) (v : View) → v.last ≡ true → Last {S = U} Agrees shares_out id v

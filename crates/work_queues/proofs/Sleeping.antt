@@ -9,7 +9,7 @@ use prog.Atomic.{either}
 use Rattle.atomic_table.specs.Table.{State, Me, Act, Valid, carried_after, stepped, step, opening, keeps, Allows, Enters}
 use Rattle.atomic_table.proofs.Lists.{at_set, set_else, set_again, at_longer, at_snoc, exchanged}
 use Rattle.work_queues.specs.declared.view.View.{View}
-use Rattle.work_queues.specs.Sleep.{padding, view, blank, has_right, owing, paid, left_of, searches, sleeps, one, sleepers, AnySeat, Owes, IsWoken, Watch, Finds, Takes, GivesBack, Shows, Hides, Interrupts, TellsNothing, LooksForSleepers, LooksForSearcher, LooksAtWorker, Wakes, LooksAtFlag, Settles, BeginsSearch, EndsSearch, Counts, LiesDown, GetsUp, CountsNot}
+use Rattle.work_queues.specs.Sleep.{padding, view, blank, has_right, owing, paid, left_of, sees, searches, sleeps, one, sleepers, AnySeat, Owes, IsWoken, Watch, Finds, Takes, GivesBack, Shows, Hides, due, not_due, taken, knows, interrupts, Interrupts, LooksWhetherDue, Hears, Permits, Rouses, LooksForSleepers, LooksForSearcher, LooksAtWorker, Wakes, LooksAtFlag, Settles, BeginsSearch, EndsSearch, Counts, LiesDown, GetsUp, CountsNot}
 
 -- a seat whose view is w in place of v
 reaches : (l : List View) (i : ℕ) (a b : View) → get_elem? l i ≡ some a → get_elem? (set l i b) i ≡ some b
@@ -91,12 +91,12 @@ module _ (S : Type 0) (n : ℕ) where
   }
 
   -- a step that changes no word, and of its seat only what is owed
-  looks : (s : St) → Watch n s → (x id : ℕ) (v : View) → get_elem? s.views id ≡ some v → (owes seen from : ℕ)
+  looks : (s : St) → Watch n s → (x id : ℕ) (v : View) → get_elem? s.views id ≡ some v → (owes seen from interruption interrupted : ℕ)
       → ((i j : ℕ) → i ≤ suc n → j < n → at s (padding * i) ≡ 1 → at s (padding * (n + 2 + j)) ≡ 1 → Owes i j v
-      → Owes i j (view v.right v.value owes seen from v.searching v.asleep) ⊎ (IsWoken n s.words ⊎ AnySeat (λ v. v.searching ≡ 1) s.views))
-      → Watch n (board (set s.words x (at s x)) s.homes (set s.views id (view v.right v.value owes seen from v.searching v.asleep)))
-  looks s o x id v me owes seen from pays =
-      let w : View = view v.right v.value owes seen from v.searching v.asleep in
+      → Owes i j (view v.right v.value owes seen from v.searching v.asleep interruption interrupted) ⊎ (IsWoken n s.words ⊎ AnySeat (λ v. v.searching ≡ 1) s.views))
+      → Watch n (board (set s.words x (at s x)) s.homes (set s.views id (view v.right v.value owes seen from v.searching v.asleep interruption interrupted)))
+  looks s o x id v me owes seen from interruption interrupted pays =
+      let w : View = view v.right v.value owes seen from v.searching v.asleep interruption interrupted in
       let vs : List View = set s.views id w in
       let count = sleepers_set s.views id v w me in
       subst (λ (ws : List ℕ). Watch n (board ws s.homes vs)) (sym (set-get_or s.words x 0)) record {
@@ -130,13 +130,13 @@ module _ (S : Type 0) (n : ℕ) where
 
   pub looks_for_sleepers : (slots id : ℕ) (me : Me S View) (x : ℕ) → x ≡ padding * (n + n + 3) → Allows (Watch n) slots id me x (λ y. y) (LooksForSleepers (step slots x 0 0 none) me)
   looks_for_sleepers slots id me x is s o _ mine _ = dite (ℕ_discrete (at s x) 0)
-      (λ e. (paid me.0, keeps, tt, looks s o x id me.0 mine 0 0 0 (λ i j le lt shows sleeping owes. absurd (none_sleeps s o (ap (at s) (sym is) ∙ e) j lt sleeping)), ((λ _. refl), λ ne. absurd (ne e))))
-      (λ ne. (owing me.0, keeps, tt, looks s o x id me.0 mine 1 0 0 (λ i j le lt shows sleeping owes. inl (refl, omega arith, omega arith)), ((λ e. absurd (ne e)), λ _. refl)))
+      (λ e. (paid me.0, keeps, tt, looks s o x id me.0 mine 0 0 0 me.0.interruption me.0.interrupted (λ i j le lt shows sleeping owes. absurd (none_sleeps s o (ap (at s) (sym is) ∙ e) j lt sleeping)), ((λ _. refl), λ ne. absurd (ne e))))
+      (λ ne. (owing me.0, keeps, tt, looks s o x id me.0 mine 1 0 0 me.0.interruption me.0.interrupted (λ i j le lt shows sleeping owes. inl (refl, omega arith, omega arith)), ((λ e. absurd (ne e)), λ _. refl)))
 
   pub looks_for_searcher : (slots id : ℕ) (me : Me S View) (x : ℕ) → x ≡ padding * (n + n + 2) → Allows (Watch n) slots id me x (λ y. y) (LooksForSearcher (step slots x 0 0 none) me)
   looks_for_searcher slots id me x is s o _ mine _ = dite (ℕ_discrete (at s x) 0)
       (λ e. (me.0, keeps, tt, unmoved s o x id me.0 mine, ((λ _. refl), λ ne. absurd (ne e))))
-      (λ ne. (paid me.0, keeps, tt, looks s o x id me.0 mine 0 0 0 (λ i j le lt shows sleeping owes. inr (inr (o.named (λ e. ne (ap (at s) is ∙ e))))), ((λ e. absurd (ne e)), λ _. refl)))
+      (λ ne. (paid me.0, keeps, tt, looks s o x id me.0 mine 0 0 0 me.0.interruption me.0.interrupted (λ i j le lt shows sleeping owes. inr (inr (o.named (λ e. ne (ap (at s) is ∙ e))))), ((λ e. absurd (ne e)), λ _. refl)))
 
   pub looks_at_worker : (slots id : ℕ) (me : Me S View) (x j : ℕ) → x ≡ padding * (n + 2 + j) → me.0.from ≡ j → Allows (Watch n) slots id me x (λ y. y) (LooksAtWorker (step slots x 0 0 none) me)
   looks_at_worker slots id me x j is from s o _ mine _ = dite (ℕ_discrete (at s x) 1)
@@ -145,7 +145,7 @@ module _ (S : Type 0) (n : ℕ) where
         left_of me.0 me.0.seen (suc me.0.from),
         keeps,
         tt,
-        looks s o x id me.0 mine 1 me.0.seen (suc me.0.from) (λ i k le lt shows sleeping owes. inl (
+        looks s o x id me.0 mine 1 me.0.seen (suc me.0.from) me.0.interruption me.0.interrupted (λ i k le lt shows sleeping owes. inl (
           refl,
           owes.1,
           let apart : k ≢ j = λ e. ne (ap (at s) (is ∙ ap (λ (y : ℕ). padding * (n + 2 + y)) (sym e)) ∙ sleeping) in let reached = owes.2 in omega arith,
@@ -157,11 +157,11 @@ module _ (S : Type 0) (n : ℕ) where
   looks_at_flag slots id me x f is seen s o _ mine _ = dite (ℕ_discrete (at s x) 1)
       (λ e. (me.0, keeps, tt, unmoved s o x id me.0 mine, ((λ _. refl), λ ne. absurd (ne e))))
       (λ ne. (
-        left_of me.0 (suc me.0.seen) me.0.from,
+        sees me.0 (suc me.0.seen),
         keeps,
         tt,
-        looks s o x id me.0 mine 1 (suc me.0.seen) me.0.from (λ i k le lt shows sleeping owes. inl (
-          refl,
+        looks s o x id me.0 mine me.0.owes (suc me.0.seen) me.0.from me.0.interruption me.0.interrupted (λ i k le lt shows sleeping owes. inl (
+          owes.0,
           (let apart : i ≢ f = λ e. ne (ap (at s) (is ∙ ap (λ (y : ℕ). padding * y) (sym e)) ∙ shows) in let reached = owes.1 in omega arith),
           owes.2,
         )),
@@ -173,7 +173,7 @@ module _ (S : Type 0) (n : ℕ) where
     paid me.0,
     keeps,
     tt,
-    looks s o x id me.0 mine 0 0 0 (λ i j le lt shows sleeping owes. absurd (⊎_elim (λ (d : suc (suc n) ≤ me.0.seen). let reached = owes.1 in omega arith) (λ (d : n ≤ me.0.from). let reached = owes.2 in omega arith) done)),
+    looks s o x id me.0 mine 0 0 0 me.0.interruption me.0.interrupted (λ i j le lt shows sleeping owes. absurd (⊎_elim (λ (d : suc (suc n) ≤ me.0.seen). let reached = owes.1 in omega arith) (λ (d : n ≤ me.0.from). let reached = owes.2 in omega arith) done)),
     refl,
   )
 
@@ -267,27 +267,43 @@ module _ (S : Type 0) (n : ℕ) where
       (at_worker s o j 3 id me.0 (paid me.0) lt mine refl refl (λ e. omega arith) (λ p. p) refl
       (lain_still s o j 3 id me.0 (paid me.0) mine (λ e. absurd (omega arith)) (λ i lt ne p. p) (λ _. refl) lt)
       (λ i k le lt' shows sleeping. inl (j, lt, get_or-set_same s.words (padding * (n + 2 + j)) 3 0 (let z = o.sized in omega arith)))))
-      (λ ne. looks s o x id me.0 mine 1 me.0.seen (suc me.0.from) (λ i k le lt' shows sleeping owes. inl (
+      (λ ne. looks s o x id me.0 mine 1 me.0.seen (suc me.0.from) me.0.interruption me.0.interrupted (λ i k le lt' shows sleeping owes. inl (
         refl,
         owes.1,
         let apart : k ≢ j = λ e. ne (ap (at s) (is ∙ ap (λ (y : ℕ). padding * (n + 2 + y)) (sym e)) ∙ sleeping) in let reached = owes.2 in omega arith,
       )))
 
-  -- an exchange at a worker by which nobody falls asleep, and the seat stays as it is
-  pub permits : (slots id : ℕ) (me : Me S View) (x j old new : ℕ) (said : Option S) → x ≡ padding * (n + 2 + j) → j < n → old ≢ 3 → new ≢ 1 → new ≢ 4 → Allows (Watch n) slots id me x (λ y. either (eqb y old) new y) (TellsNothing (step slots x old new said) me)
-  permits slots id me x j old new said is lt not-woken awake claimed s o many mine small = exchanged (at s x) old new
-      (λ y. (w : View) × (a : Act S) × Valid s.homes me.1 a × Watch n (stepped s x y id me.1 w a) × TellsNothing (step slots x old new said) me (at s x) (w, carried_after me.1 a))
-      (λ e. (
-        me.0,
-        keeps,
-        tt,
-        subst (λ (y : ℕ). Watch n (board (set s.words y new) s.homes (set s.views id me.0))) (sym is)
-            (at_worker s o j new id me.0 me.0 lt mine refl refl claimed (λ p. p) refl
-            (lain_still s o j new id me.0 me.0 mine (λ e. absurd (awake e)) (λ i lt ne p. p) (λ _. refl) lt)
-            (watched_still s o (padding * (n + 2 + j)) new id me.0 me.0 mine (λ three. not-woken (sym e ∙ (ap (at s) is ∙ three))) (λ p. p) (λ i k p. p) (λ e. absurd (awake e)))),
-        refl,
-      ))
-      (λ ne. (me.0, keeps, tt, unmoved s o x id me.0 mine, refl))
+  -- a step that changes no word, after which the seat knows something of interruptions
+  learns : (s : St) → Watch n s → (x id : ℕ) (v : View) → get_elem? s.views id ≡ some v → (interruption interrupted : ℕ)
+      → Watch n (board (set s.words x (at s x)) s.homes (set s.views id (view v.right v.value v.owes v.seen v.from v.searching v.asleep interruption interrupted)))
+  learns s o x id v me interruption interrupted = looks s o x id v me v.owes v.seen v.from interruption interrupted (λ i j le lt shows sleeping owes. inl owes)
+
+  -- a worker that was not on its way becomes one that is not asleep
+  roused : (s : St) → Watch n s → (x j new id : ℕ) (v : View) → get_elem? s.views id ≡ some v → x ≡ padding * (n + 2 + j) → j < n → at s x ≢ 3 → new ≢ 1 → new ≢ 4 → Watch n (board (set s.words x new) s.homes (set s.views id (interrupts v x)))
+  roused s o x j new id v mine is lt not-woken awake claimed =
+      subst (λ (y : ℕ). Watch n (board (set s.words y new) s.homes (set s.views id (interrupts v x)))) (sym is)
+      (at_worker s o j new id v (interrupts v x) lt mine refl refl claimed (λ p. p) refl
+      (lain_still s o j new id v (interrupts v x) mine (λ e. absurd (awake e)) (λ i lt ne p. p) (λ _. refl) lt)
+      (watched_still s o (padding * (n + 2 + j)) new id v (interrupts v x) mine (λ three. not-woken (ap (at s) is ∙ three)) (λ p. p) (λ i k p. p) (λ e. absurd (awake e))))
+
+  pub permits : (slots id : ℕ) (me : Me S View) (x j : ℕ) (said : Option S) → x ≡ padding * (n + 2 + j) → j < n → Allows (Watch n) slots id me x (λ y. either (eqb y 0) 2 y) (Permits (step slots x 0 2 said) me)
+  permits slots id me x j said is lt s o many mine small = exchanged (at s x) 0 2
+      (λ y. (w : View) × (a : Act S) × Valid s.homes me.1 a × Watch n (stepped s x y id me.1 w a) × Permits (step slots x 0 2 said) me (at s x) (w, carried_after me.1 a))
+      (λ e. (interrupts me.0 x, keeps, tt, roused s o x j 2 id me.0 mine is lt (λ three. omega arith) (λ one. omega arith) (λ four. omega arith), (refl, refl, ((λ one. absurd (omega arith)), λ _. refl))))
+      (λ _. dite (ℕ_discrete (at s x) 1)
+      (λ e. (me.0, keeps, tt, unmoved s o x id me.0 mine, (refl, refl, ((λ _. refl), λ ne. absurd (ne e)))))
+      (λ ne. (interrupts me.0 x, keeps, tt, learns s o x id me.0 mine me.0.interruption (suc x), (refl, refl, ((λ e. absurd (ne e)), λ _. refl)))))
+
+  pub rouses : (slots id : ℕ) (me : Me S View) (x j : ℕ) (said : Option S) → x ≡ padding * (n + 2 + j) → j < n → Allows (Watch n) slots id me x (λ y. either (eqb y 1) 3 y) (Rouses (step slots x 1 3 said) me)
+  rouses slots id me x j said is lt s o many mine small = exchanged (at s x) 1 3
+      (λ y. (w : View) × (a : Act S) × Valid s.homes me.1 a × Watch n (stepped s x y id me.1 w a) × Rouses (step slots x 1 3 said) me (at s x) (w, carried_after me.1 a))
+      (λ e. (interrupts me.0 x, keeps, tt, roused s o x j 3 id me.0 mine is lt (λ three. omega arith) (λ one. omega arith) (λ four. omega arith), (refl, refl, refl)))
+      (λ _. (interrupts me.0 x, keeps, tt, learns s o x id me.0 mine me.0.interruption (suc x), (refl, refl, refl)))
+
+  pub looks_whether_due : (slots id : ℕ) (me : Me S View) (x : ℕ) → Allows (Watch n) slots id me x (λ y. y) (LooksWhetherDue (step slots x 0 0 none) me)
+  looks_whether_due slots id me x s o _ mine _ = dite (ℕ_discrete (at s x) 1)
+      (λ e. (knows me.0 due, keeps, tt, learns s o x id me.0 mine due me.0.interrupted, ((λ _. refl), λ ne. absurd (ne e))))
+      (λ ne. (knows me.0 not_due, keeps, tt, learns s o x id me.0 mine not_due me.0.interrupted, ((λ e. absurd (ne e)), λ _. refl)))
 
   pub lies_down : (slots id : ℕ) (me : Me S View) (x j : ℕ) (said : Option S) → x ≡ padding * (n + 2 + j) → j < n → me.0.asleep ≡ 1 → Allows (Watch n) slots id me x (λ y. either (eqb y 0) 1 y) (LiesDown (step slots x 0 1 said) me)
   lies_down slots id me x j said is lt counted s o many mine small = tries id me x 0 1 (λ v. owing (sleeps v (suc x))) (λ v. v) s
@@ -374,23 +390,23 @@ module _ (S : Type 0) (n : ℕ) where
       (lain_aside s o x k id v w me (λ j lt e. omega arith) (λ j p. asleep ∙ p))
       watched
 
-  pub interrupts : (slots id : ℕ) (me : Me S View) (x : ℕ) → x ≡ padding * (n + 1) → Allows (Watch n) slots id me x (λ _. 1) (λ _. Interrupts (step slots x 1 0 none) me 1)
-  interrupts slots id me x is s o many mine small = (
-    owing me.0,
+  pub interruption_is_due : (slots id : ℕ) (me : Me S View) (x : ℕ) → x ≡ padding * (n + 1) → Allows (Watch n) slots id me x (λ _. 1) (λ _. Interrupts (step slots x 1 0 none) me 1)
+  interruption_is_due slots id me x is s o many mine small = (
+    owing (knows me.0 due),
     keeps,
     tt,
-    at_interruptions s o x 1 id me.0 (owing me.0) is (λ e. omega arith) mine refl refl refl refl (owed_by s.views (set s.words x 1) id me.0 (owing me.0) mine refl refl refl),
-    refl,
+    at_interruptions s o x 1 id me.0 (owing (knows me.0 due)) is (λ e. omega arith) mine refl refl refl refl (owed_by s.views (set s.words x 1) id me.0 (owing (knows me.0 due)) mine refl refl refl),
+    (refl, refl),
   )
 
-  pub hears : (slots id : ℕ) (me : Me S View) (x : ℕ) → x ≡ padding * (n + 1) → Allows (Watch n) slots id me x (λ _. 0) (λ _. TellsNothing (step slots x 0 0 none) me 0)
+  pub hears : (slots id : ℕ) (me : Me S View) (x : ℕ) → x ≡ padding * (n + 1) → Allows (Watch n) slots id me x (λ _. 0) (λ _. Hears (step slots x 0 0 none) me 0)
   hears slots id me x is s o many mine small = let z = o.sized in (
-    me.0,
+    knows me.0 taken,
     keeps,
     tt,
-    at_interruptions s o x 0 id me.0 me.0 is (λ e. omega arith) mine refl refl refl refl
+    at_interruptions s o x 0 id me.0 (knows me.0 taken) is (λ e. omega arith) mine refl refl refl refl
         (λ i j le lt shows sleeping. ⊎_elim (λ woken. inl (woken.0, woken.1, get_or-set_other s.words x (padding * (n + 2 + woken.0)) 0 0 (λ e. omega arith) ∙ woken.2))
-        (λ t. inr (⊎_elim (λ a. inl (any_still (λ v. v.searching ≡ 1) s.views id me.0 me.0 mine (λ p. p) a)) (λ a. inr (any_still (Owes i j) s.views id me.0 me.0 mine (λ p. p) a)) t))
+        (λ t. inr (⊎_elim (λ a. inl (any_still (λ v. v.searching ≡ 1) s.views id me.0 (knows me.0 taken) mine (λ p. p) a)) (λ a. inr (any_still (Owes i j) s.views id me.0 (knows me.0 taken) mine (λ p. p) a)) t))
         (o.watched i j le lt (sym (get_or-set_other s.words x (padding * i) 0 0 (λ e. let hidden = get_or-set_same s.words x 0 0 (omega arith) in let same = ap (λ (y : ℕ). get_or (set s.words x 0) y 0) e in omega arith)) ∙ shows)
         (sym (get_or-set_other s.words x (padding * (n + 2 + j)) 0 0 (λ e. omega arith)) ∙ sleeping))),
     refl,

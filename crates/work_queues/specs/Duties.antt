@@ -4,6 +4,8 @@ use Rattle.atomic_table.specs.Seated.{TableId}
 use Rattle.work_queues.specs.declared.bells.Bells.{Bells}
 use Rattle.work_queues.specs.declared.bells.Flag.{Flag}
 use Rattle.work_queues.specs.declared.bells.Claim.{Claim}
+use Rattle.work_queues.specs.declared.bells.Interrupted.{Interrupted}
+use Rattle.work_queues.specs.declared.bells.NothingShown.{NothingShown}
 use Rattle.work_queues.specs.declared.bells.Sleeper.{Sleeper}
 use Rattle.work_queues.specs.Sleep.{padding, has_right}
 
@@ -11,6 +13,7 @@ use Rattle.work_queues.specs.Sleep.{padding, has_right}
 abbrev pub IsFlagAt : TableId → Flag → Type 0
 IsFlagAt bells flag = (flag.seat.table_id ≡ bells) × (flag.seat.me ≡ (has_right (padding * flag.queue) (if flag.shows then 1 else 0), []))
 
+-- the same at these bells
 abbrev pub IsFlag : Bells → Flag → Type 0
 IsFlag bells flag = IsFlagAt bells.table.shared.table_id flag
 
@@ -18,7 +21,15 @@ IsFlag bells flag = IsFlagAt bells.table.shared.table_id flag
 abbrev pub IsClaim : Bells → Claim → Type 0
 IsClaim bells claim = (claim.place.seat.table_id ≡ bells.table.shared.table_id) × (claim.number < bells.workers) × (claim.place.seat.me ≡ (has_right (padding * (bells.workers + 2 + claim.number)) 0, []))
 
+-- this worker of these bells was interrupted
+abbrev pub IsInterrupted : Bells → ℕ → Interrupted → Type 0
+IsInterrupted bells worker interrupted = (interrupted.worker ≡ worker) × (interrupted.seat.table_id ≡ bells.table.shared.table_id) × (interrupted.seat.me.0.interrupted ≡ padding * (bells.workers + 2 + worker) + 1)
+
+-- it has looked at the flag of each queue of these bells, which showed no item
+abbrev pub SawNothing : Bells → NothingShown → Type 0
+SawNothing bells none = (none.seat.table_id ≡ bells.table.shared.table_id) × (none.seat.me.0.seen ≡ bells.workers + 1)
+
 -- it is asleep at these bells
 abbrev pub IsAsleep : Bells → Sleeper → Type 0
 IsAsleep bells sleeper = (sleeper.place.seat.table_id ≡ bells.table.shared.table_id) × (sleeper.worker < bells.workers) × (sleeper.place.seat.me.1 ≡ [])
-    × (sleeper.place.seat.me.0.right ≡ 0) × (sleeper.place.seat.me.0.value ≡ 0) × (sleeper.place.seat.me.0.searching ≡ 0) × (sleeper.place.seat.me.0.asleep ≡ padding * (bells.workers + 2 + sleeper.worker) + 1)
+    × (sleeper.place.seat.me.0.right ≡ 0) × (sleeper.place.seat.me.0.value ≡ 0) × (sleeper.place.seat.me.0.searching ≡ 0) × (sleeper.place.seat.me.0.interruption ≡ 0) × (sleeper.place.seat.me.0.interrupted ≡ 0) × (sleeper.place.seat.me.0.asleep ≡ padding * (bells.workers + 2 + sleeper.worker) + 1)

@@ -11,38 +11,68 @@ use Rattle.work_queues.specs.declared.view.View.{View}
 abbrev pub padding : ℕ
 padding = 16
 
-abbrev pub view : ℕ → ℕ → ℕ → ℕ → ℕ → ℕ → ℕ → View
-view right value owes seen from searching asleep = record { right = right; value = value; owes = owes; seen = seen; from = from; searching = searching; asleep = asleep }
+-- what a seat has, owes and knows, by its numbers
+abbrev pub view : ℕ → ℕ → ℕ → ℕ → ℕ → ℕ → ℕ → ℕ → ℕ → View
+view right value owes seen from searching asleep interruption interrupted = record { right = right; value = value; owes = owes; seen = seen; from = from; searching = searching; asleep = asleep; interruption = interruption; interrupted = interrupted }
 
+-- a seat that has no right, owes no look and knows nothing
 abbrev pub blank : View
-blank = view 0 0 0 0 0 0 0
+blank = view 0 0 0 0 0 0 0 0 0
+
+-- what a seat knows of the interruption: it was due, it was not, or this seat has taken it and owes an answer
+abbrev pub due : ℕ
+due = 1
+
+-- it was not due
+abbrev pub not_due : ℕ
+not_due = 2
+
+-- this seat has taken it, and owes an answer
+abbrev pub taken : ℕ
+taken = 3
 
 -- the right to the word of this number: a flag that shows so much, or a worker
 abbrev pub has_right : ℕ → ℕ → View
-has_right word value = view (suc word) value 0 0 0 0 0
+has_right word value = view (suc word) value 0 0 0 0 0 0 0
 
 -- a look is owed at each flag and at each worker
 abbrev pub owing : View → View
-owing v = view v.right v.value 1 0 0 v.searching v.asleep
+owing v = view v.right v.value 1 0 0 v.searching v.asleep v.interruption v.interrupted
 
+-- no look is owed
 abbrev pub paid : View → View
-paid v = view v.right v.value 0 0 0 v.searching v.asleep
+paid v = view v.right v.value 0 0 0 v.searching v.asleep v.interruption v.interrupted
 
 -- still owed: a look at the flags from the first of these on, for the workers from the second on
 abbrev pub left_of : View → ℕ → ℕ → View
-left_of v seen from = view v.right v.value 1 seen from v.searching v.asleep
+left_of v seen from = view v.right v.value 1 seen from v.searching v.asleep v.interruption v.interrupted
 
+-- it has looked at the flags below this one
+abbrev pub sees : View → ℕ → View
+sees v seen = view v.right v.value v.owes seen v.from v.searching v.asleep v.interruption v.interrupted
+
+-- it is the searcher, at 1, or is not, at 0
 abbrev pub searches : View → ℕ → View
-searches v searching = view v.right v.value v.owes v.seen v.from searching v.asleep
+searches v searching = view v.right v.value v.owes v.seen v.from searching v.asleep v.interruption v.interrupted
 
+-- it counts as no sleeper, at 0, as one, at 1, or put a worker to sleep, at one more than its word
 abbrev pub sleeps : View → ℕ → View
-sleeps v asleep = view v.right v.value v.owes v.seen v.from v.searching asleep
+sleeps v asleep = view v.right v.value v.owes v.seen v.from v.searching asleep v.interruption v.interrupted
+
+-- it knows this of the interruption
+abbrev pub knows : View → ℕ → View
+knows v interruption = view v.right v.value v.owes v.seen v.from v.searching v.asleep interruption v.interrupted
+
+-- it has interrupted the worker that has the word of this number
+abbrev pub interrupts : View → ℕ → View
+interrupts v word = view v.right v.value v.owes v.seen v.from v.searching v.asleep v.interruption (suc word)
 
 -- 1 for a seat that counts as a sleeper
 abbrev pub one : ℕ → ℕ
 one zero = 0
 one (suc k) = 1
 
+-- how many seats count as sleepers
 abbrev pub sleepers : List View → ℕ
 sleepers [] = 0
 sleepers (v ∷ vs) = one v.asleep + sleepers vs
@@ -60,6 +90,7 @@ abbrev pub IsWoken : ℕ → List ℕ → Type 0
 IsWoken n words = (k : ℕ) × (k < n) × (slice_index words (padding * (n + 2 + k)) ≡ 3)
 
 module _ {S : Type 0} where
+  -- the rule: no worker sleeps on while an item is shown or an interruption due, unless a wake, a search or a look is to come
   pub record Watch (n : ℕ) (s : State S View) : Type 0 where
     pub sized : length s.words ≡ padding * (n + n + 4)
     -- nobody has the right to a word that shows so
@@ -79,63 +110,94 @@ module _ {S : Type 0} where
   abbrev pub Finds : ℕ → (View → View) → (View → View) → Me S View → ℕ → Me S View → Type 0
   Finds sought hit miss before found after = (found ≡ sought → after ≡ (hit before.0, before.1)) × (found ≢ sought → after ≡ (miss before.0, before.1))
 
+  -- a load makes a seat, which owes nothing
   abbrev pub Enters : Step S → Me S View → ℕ → Me S View → Type 0
   Enters step before found after = after ≡ (blank, [])
 
+  -- a load makes a seat, which owes all looks
   abbrev pub EntersOwing : Step S → Me S View → ℕ → Me S View → Type 0
   EntersOwing step before found after = after ≡ (owing blank, [])
 
+  -- the seat has the right to a word that nobody had
   abbrev pub Takes : Step S → Me S View → ℕ → Me S View → Type 0
   Takes step before found after = Finds step.first (λ v. has_right step.word 0) (λ v. v) before found after
 
+  -- the right to a word is given back, and all looks are owed
   abbrev pub GivesBack : Step S → Me S View → ℕ → Me S View → Type 0
   GivesBack step before found after = after ≡ (owing blank, before.1)
 
+  -- the flag of a queue shows an item, and all looks are owed
   abbrev pub Shows : Step S → Me S View → ℕ → Me S View → Type 0
   Shows step before found after = after ≡ (owing (has_right step.word 1), before.1)
 
+  -- the flag of a queue shows no item
   abbrev pub Hides : Step S → Me S View → ℕ → Me S View → Type 0
   Hides step before found after = after ≡ (has_right step.word 0, before.1)
 
+  -- an interruption is due, and all looks are owed
   abbrev pub Interrupts : Step S → Me S View → ℕ → Me S View → Type 0
-  Interrupts step before found after = after ≡ (owing before.0, before.1)
+  Interrupts step before found after = (step.first ≡ 1) × (after ≡ (owing (knows before.0 due), before.1))
 
-  abbrev pub TellsNothing : Step S → Me S View → ℕ → Me S View → Type 0
-  TellsNothing step before found after = after ≡ before
+  -- a look whether an interruption is due
+  abbrev pub LooksWhetherDue : Step S → Me S View → ℕ → Me S View → Type 0
+  LooksWhetherDue step before found after = Finds 1 (λ v. knows v due) (λ v. knows v not_due) before found after
 
+  -- the interruption that was due is taken
+  abbrev pub Hears : Step S → Me S View → ℕ → Me S View → Type 0
+  Hears step before found after = after ≡ (knows before.0 taken, before.1)
+
+  -- unless the worker was asleep, it was interrupted: where it was awake, its word says so
+  abbrev pub Permits : Step S → Me S View → ℕ → Me S View → Type 0
+  Permits step before found after = (step.first ≡ 0) × (step.second ≡ 2) × Finds 1 (λ v. v) (λ v. interrupts v step.word) before found after
+
+  -- where the worker was asleep, its word says woken
+  abbrev pub Rouses : Step S → Me S View → ℕ → Me S View → Type 0
+  Rouses step before found after = (step.first ≡ 1) × (step.second ≡ 3) × (after ≡ (interrupts before.0 step.word, before.1))
+
+  -- a look whether a worker sleeps: where none does, no look is owed, and else all are
   abbrev pub LooksForSleepers : Step S → Me S View → ℕ → Me S View → Type 0
   LooksForSleepers step before found after = Finds 0 paid owing before found after
 
+  -- a look whether a worker searches: where one does, no look is owed
   abbrev pub LooksForSearcher : Step S → Me S View → ℕ → Me S View → Type 0
   LooksForSearcher step before found after = (found ≡ 0 → after ≡ before) × (found ≢ 0 → after ≡ (paid before.0, before.1))
 
+  -- a look at one worker: where it is not asleep, the next one is due
   abbrev pub LooksAtWorker : Step S → Me S View → ℕ → Me S View → Type 0
   LooksAtWorker step before found after = Finds 1 (λ v. v) (λ v. left_of v v.seen (suc v.from)) before found after
 
+  -- a worker that sleeps is woken, and no look is owed; where it was not asleep, the next one is due
   abbrev pub Wakes : Step S → Me S View → ℕ → Me S View → Type 0
   Wakes step before found after = Finds 1 paid (λ v. left_of v v.seen (suc v.from)) before found after
 
+  -- a look at one flag: where it shows nothing, the next one is due
   abbrev pub LooksAtFlag : Step S → Me S View → ℕ → Me S View → Type 0
-  LooksAtFlag step before found after = Finds 1 (λ v. v) (λ v. left_of v (suc v.seen) v.from) before found after
+  LooksAtFlag step before found after = Finds 1 (λ v. v) (λ v. sees v (suc v.seen)) before found after
 
   -- all looks that were owed are done
   abbrev pub Settles : Step S → Me S View → ℕ → Me S View → Type 0
   Settles step before found after = after ≡ (paid before.0, before.1)
 
+  -- a worker is the searcher, where there was none
   abbrev pub BeginsSearch : Step S → Me S View → ℕ → Me S View → Type 0
   BeginsSearch step before found after = Finds 0 (λ v. searches v 1) (λ v. v) before found after
 
+  -- there is no searcher from here on, and all looks are owed
   abbrev pub EndsSearch : Step S → Me S View → ℕ → Me S View → Type 0
   EndsSearch step before found after = after ≡ (owing (searches before.0 0), before.1)
 
+  -- a worker counts as a sleeper
   abbrev pub Counts : Step S → Me S View → ℕ → Me S View → Type 0
   Counts step before found after = Finds step.first (λ v. sleeps v 1) (λ v. v) before found after
 
+  -- a worker is asleep, unless it was interrupted, and all looks are owed
   abbrev pub LiesDown : Step S → Me S View → ℕ → Me S View → Type 0
   LiesDown step before found after = Finds 0 (λ v. owing (sleeps v (suc step.word))) (λ v. v) before found after
 
+  -- a worker is awake, and all looks are owed
   abbrev pub GetsUp : Step S → Me S View → ℕ → Me S View → Type 0
   GetsUp step before found after = after ≡ (owing (sleeps before.0 1), before.1)
 
+  -- a worker counts as no sleeper
   abbrev pub CountsNot : Step S → Me S View → ℕ → Me S View → Type 0
   CountsNot step before found after = after ≡ (sleeps before.0 0, before.1)

@@ -8,22 +8,26 @@
 //! | `Search` | `begin_search` | `end_search` |
 //! | `Sleeper` | `lie_down` | `get_up` |
 //! | `Look` | `end_search`, `get_up`, `give_back` | `pay`, or the next search or sleep |
-//! | `Woken` | a step by which a worker is no more asleep | `ring` |
+//! | `Woken` | the step by which that worker is no more asleep | `ring` |
 //! | `Heard` | `hear` | `answer`, `pass_on` |
+//!
+//! What a call has done, it answers as a value that only the step makes: `Due`, `NotDue`, `Interrupted`, `NothingShown`.
 ghost use Rattle.std.specs.Prelude.{◌≡◌, ◌≢◌, ℕ, ◌+◌, ◌*◌, ◌<◌, ◌≤◌, [], IfOk, length, slice_index, min, max};
-ghost use Rattle.work_queues.specs.Sleep.{padding, blank, owing, searches};
+ghost use Rattle.work_queues.specs.Sleep.{padding, blank, owing, searches, due, not_due, taken};
 
 mod calling;
 mod claims;
 mod flags;
 mod interruptions;
 mod resting;
+mod waking;
 
 use crate::view::View;
 use crate::watch::{Enter, Sleep};
 use atomic_table::Table;
 use std::alloc::{AllocError, Global};
 use std::sync::atomic::AtomicU64;
+pub use waking::Woken;
 
 /// The most workers of a pool.
 pub const MOST_WORKERS: usize = 1024;
@@ -51,7 +55,7 @@ const MOST_SLEEPERS: u64 = 1 << 32;
 
 type Seat = atomic_table::Seat<(), View>;
 
-// A seat that may owe looks. It has no `Drop`, so it ends in `leave`, which asks that it owes none.
+// A seat that may owe looks, or an answer. It has no `Drop`, so it ends in `leave`, which asks that it owes nothing.
 struct Place {
     seat: Seat,
 }
@@ -92,18 +96,49 @@ pub struct Search {
     ghost is: { place.seat.me ≡ (searches (owing blank) 1, []) },
 }
 
+/// At an instant each of the call that answers this, no flag of a queue showed an item.
+#[derive(Drop)]
+pub struct NothingShown {
+    seat: Seat,
+}
+
 /// A worker that has lain down.
 pub struct Sleeper {
     worker: usize,
     place: Place,
 }
 
-/// An interruption that a worker has heard: it looks once more.
-pub struct Heard(());
+/// An interruption was due, at an instant of the call that answers this.
+#[derive(Drop)]
+pub struct Due {
+    seat: Seat,
+    ghost is: { seat.me.0.interruption ≡ due },
+}
 
-/// A worker that a step has woken, until its thread is.
-pub struct Woken {
+/// No interruption was due, at an instant of the call that answers this.
+#[derive(Drop)]
+pub struct NotDue {
+    seat: Seat,
+    ghost is: { seat.me.0.interruption ≡ not_due },
+}
+
+/// An interruption that a worker has heard: it looks once more.
+pub struct Heard {
+    place: Place,
+    ghost is: { place.seat.me.0.interruption ≡ taken },
+}
+
+/// A worker was interrupted: at an instant of the call that answers this it was not asleep, and looks once more.
+#[derive(Drop)]
+pub struct Interrupted {
     worker: usize,
+    seat: Seat,
+}
+
+/// Each worker below a number was interrupted.
+#[derive(Drop)]
+pub struct AllInterrupted {
+    next: usize,
 }
 
 // What a word of this number shows at first: flags of queues and workers are free.
@@ -130,7 +165,8 @@ fn first_words(alloc: Global, workers: usize) -> Result<Vec<u64>, AllocError>
 }
 
 fn leave(place: Place)
-    requires { (place.seat.me.0.owes ≡ 0) × (place.seat.me.0.right ≡ 0) × (place.seat.me.0.searching ≡ 0) × (place.seat.me.0.asleep ≡ 0) }
+    requires owes { (place.seat.me.0.owes ≡ 0) × (place.seat.me.0.right ≡ 0) × (place.seat.me.0.searching ≡ 0) × (place.seat.me.0.asleep ≡ 0) }
+    requires heard { place.seat.me.0.interruption ≢ taken }
 {
     let Place { seat } = place;
     drop(seat);
@@ -191,14 +227,5 @@ impl Bells {
         let word = self.sleepers_word();
         let seat = self.table.shared.load_new_seat::<Enter>(word).1;
         Place { seat }
-    }
-}
-
-impl Woken {
-    /// The number of the worker.
-    pub fn worker(&self) -> usize
-        ensures { result ≡ self.now.worker }
-    {
-        self.worker
     }
 }

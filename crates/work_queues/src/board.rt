@@ -29,6 +29,18 @@ struct Visit<T, A: Allocator> {
     seat: atomic_table::Seat<Queue<T, A>, Room>,
 }
 
+/// A queue that a call has had to itself, and has given back. Only that makes one.
+#[derive(Drop)]
+pub struct Visited {
+    queue: usize,
+}
+
+/// Each queue below a number was had by a call, and given back.
+#[derive(Drop)]
+pub struct AllVisited {
+    next: usize,
+}
+
 /// A queue for each worker, and one more for what comes from outside. `A` is where the queues take their memory. The items are dropped with it.
 #[derive(Drop)]
 pub struct Board<T, A: Allocator = Global> {

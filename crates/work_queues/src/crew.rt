@@ -1,13 +1,14 @@
 //! What the workers of a pool share, and what each does with it: push, find, and rest.
-ghost use Rattle.std.specs.Prelude.{◌≡◌, ◌<◌, ◌≤◌, ◌↔◌, IfErr, IfOk, IfSome, IsNone, IsSome};
+ghost use Rattle.std.specs.Prelude.{◌≡◌, ◌<◌, ◌≤◌, ◌+◌, ◌/◌, ◌%◌, ◌++◌, ◌↔◌, [], min, option_to_list, IfErr, IfOk, IfSome, IsNone, IsSome, OnOk};
 ghost use Rattle.std.specs.Arc.{arc_value};
+ghost use Rattle.std.specs.VecDeque.{deque_len, deque_capacity};
 ghost use Rattle.std.proofs.Props.{props};
 ghost use Rattle.work_queues.specs.Duties.{IsClaim};
 
 mod sharing;
 
-use crate::bells::{Bells, Claim, Heard, Look, Woken};
-use crate::board::{Board, pause};
+use crate::bells::{Bells, Claim, Due, Heard, Look, NotDue, Woken};
+use crate::board::{Board, Visited, pause};
 use crate::limit::Limit;
 use crate::settings::Settings;
 use std::alloc::{AllocError, Allocator, Global};
@@ -20,6 +21,14 @@ const OTHERS_EVERY: u64 = 16;
 
 /// It looks at all queues once in so many looks, and else only at counts that no worker writes for its own items. In a round `Board::is_left` may look 128 times at a queue of another worker, so beside queues that fill and empty a search has up to as many looks more for each of them as a search has.
 const LOOKS_A_ROUND: usize = 128;
+
+// The number of the worker whose queue is looked at at this visit: of each in turn.
+fn whose_turn(visits: u64, workers: usize) -> usize
+    requires { 0 < workers }
+    ensures { result ≡ (visits / 16) % workers }
+{
+    (visits / OTHERS_EVERY) as usize % workers
+}
 
 /// The board of a pool and its bells. `A` is where the queues take their memory. The items that are left are dropped with it.
 pub struct Crew<T, A: Allocator = Global> {
@@ -102,7 +111,7 @@ impl<T, A: Allocator> Worker<T, A> {
     // Ends the looks that it owes: where a flag shows something, another worker is woken.
     fn pay_looks(&mut self)
         ensures owed { IsNone self.new.owed }
-        ensures heard { self.new.heard ≡ self.old.heard }
+        ensures kept { (self.new.heard ≡ self.old.heard) × (self.new.batch ≡ self.old.batch) }
     {
         if let Some(look) = self.owed.take() {
             self.bells.settle(look);
@@ -111,7 +120,8 @@ impl<T, A: Allocator> Worker<T, A> {
 
     /// Ends what it owes, where it owes something: it has looked once more, for items and for what interruptions are for.
     pub fn settle(&mut self)
-        ensures { OwesNothing self.new }
+        ensures owes { OwesNothing self.new }
+        ensures batch { self.new.batch ≡ self.old.batch }
     {
         self.pay_looks();
         if let Some(heard) = self.heard.take() {
@@ -119,14 +129,14 @@ impl<T, A: Allocator> Worker<T, A> {
         }
     }
 
-    /// Has another worker do what it owes, where it owes something: it looks no more for now. Where a queue shows an item, one that sleeps is woken, if none searches. An interruption that it has heard is due again.
-    pub fn pay(&mut self)
-        ensures { OwesNothing self.new }
+    /// Has another worker do what it owes, where it owes something: it looks no more for now. Where a queue shows an item, one that sleeps is woken, if none searches. An interruption that it has heard is due again, which is the answer.
+    pub fn pay(&mut self) -> Option<Due>
+        ensures owes { OwesNothing self.new }
+        ensures due { IsSome self.old.heard → IsSome result }
     {
         self.pay_looks();
-        if let Some(heard) = self.heard.take() {
-            self.bells.pass_on(heard);
-        }
+        let heard = self.heard.take()?;
+        Some(self.bells.pass_on(heard))
     }
 
     // Lies down, looks at each flag, and sleeps if none shows anything.
@@ -134,7 +144,7 @@ impl<T, A: Allocator> Worker<T, A> {
         requires { look.place.seat.table_id ≡ (arc_value self.now.bells).table.shared.table_id }
         ensures { result.place.seat.table_id ≡ (arc_value self.now.bells).table.shared.table_id }
     {
-        match self.bells.lie_down(rt, look, &self.claim) {
+        match self.bells.lie_down(rt, Some(look), &self.claim) {
             Ok(mut sleeper) => {
                 if !self.bells.sees_something(&mut sleeper)
                     && self.bells.interruptions() == interruptions
@@ -173,14 +183,19 @@ impl<T, A: Allocator> Worker<T, A> {
         }
     }
 
-    // It has looked once more for what it has heard, and hears what is due now.
-    fn hear(&mut self)
-        ensures { self.new.owed ≡ self.old.owed }
+    // It has looked once more for what it has heard, and hears what is due now. `None` where it has heard an interruption.
+    fn hear(&mut self) -> Option<NotDue>
+        ensures owed { self.new.owed ≡ self.old.owed }
+        ensures heard { IsNone result → IsSome self.new.heard }
     {
-        let due = self.bells.hear();
-        if let Some(before) = mem::replace(&mut self.heard, due) {
+        let (heard, not_due) = match self.bells.hear() {
+            Ok(not_due) => (None, Some(not_due)),
+            Err(heard) => (Some(heard), None),
+        };
+        if let Some(before) = mem::replace(&mut self.heard, heard) {
             self.bells.answer(before, &self.claim);
         }
+        not_due
     }
 }
 
@@ -216,6 +231,7 @@ impl<T: Drop, A: Allocator + Copy> Crew<T, A> {
     /// What the worker of this number keeps: its hands take their memory of `items`. After an error nothing has changed.
     pub fn worker(&self, items: A, number: usize) -> Result<Worker<T, A>, WorkerError>
         ensures worker { IfOk result (λ worker. (worker.number ≡ number) × (number < (arc_value self.now.bells).workers)) }
+        ensures batch { IfOk result (λ worker. (worker.batch.items ≡ []) × (deque_capacity worker.batch ≡ self.now.settings.batch)) }
         ensures none { result ≡ Err WorkerError.NoSuchWorker ↔ ((arc_value self.now.bells).workers ≤ number) }
     {
         if number >= self.workers() {
@@ -270,8 +286,9 @@ impl<T, A: Allocator> Crew<T, A> {
     }
 
     /// Puts an item at the back of a worker's queue, or, where there is no worker of this number, of the queue for what comes from outside. It wakes a worker if one sleeps. `Err` hands the item back, where there was no memory.
-    pub fn push<R: Wait>(&self, rt: &R, worker: usize, item: T) -> Result<(), T>
-        ensures { IfErr result (λ back. back ≡ item) }
+    pub fn push<R: Wait>(&self, rt: &R, worker: usize, item: T) -> Result<Visited, T>
+        ensures queue { IfOk result (λ visited. visited.queue ≡ min worker (arc_value self.now.bells).workers) }
+        ensures refused { IfErr result (λ back. back ≡ item) }
     {
         let queue = worker.min(self.board.workers());
         let (pushed, woken) = self.board.push(rt, queue, item);
@@ -302,13 +319,22 @@ impl<T, A: Allocator> Crew<T, A> {
         self.keep_batch(rt, worker)
     }
 
+    // The batch in the hands of a worker goes to the back of its own queue, as far as that has room.
+    fn put_batch<R: Wait>(&self, rt: &R, worker: &mut Worker<T, A>) -> Result<Visited, AllocError>
+        ensures queue { IfOk result (λ visited. visited.queue ≡ min worker.old.number (arc_value self.now.bells).workers) }
+        ensures all { OnOk result (worker.new.batch.items ≡ []) }
+    {
+        let own = worker.number.min(self.board.workers());
+        let (put, woken) = self.board.put_all(rt, own, &mut worker.batch);
+        self.ring(woken);
+        put
+    }
+
     // The first item of the batch in its hands. The others go into its own queue.
     fn keep_batch<R: Wait>(&self, rt: &R, worker: &mut Worker<T, A>) -> Option<T> {
         let first = worker.batch.pop_front();
         if !worker.batch.is_empty() {
-            let own = worker.number.min(self.board.workers());
-            let (_, woken) = self.board.put_all(rt, own, &mut worker.batch);
-            self.ring(woken);
+            drop(self.put_batch(rt, worker));
         }
         first
     }
@@ -363,7 +389,7 @@ impl<T, A: Allocator> Crew<T, A> {
     fn find_overdue<R: Wait>(&self, rt: &R, worker: &mut Worker<T, A>) -> Option<T> {
         let workers = self.board.workers();
         if worker.visits % OTHERS_EVERY == 0 {
-            let from = (worker.visits / OTHERS_EVERY) as usize % workers;
+            let from = whose_turn(worker.visits, workers);
             if from != worker.number && !self.board.is_empty(from) {
                 if let Some(item) = self.steal(rt, worker, from) {
                     return Some(item);
@@ -377,7 +403,9 @@ impl<T, A: Allocator> Crew<T, A> {
     ///
     /// Where it finds one, the worker owes nothing from here on. So look first at what interruptions are for, if it has heard one.
     pub fn find<R: Wait>(&self, rt: &R, worker: &mut Worker<T, A>) -> Option<T>
-        ensures { IsSome result → OwesNothing worker.new }
+        ensures owes { IsSome result → OwesNothing worker.new }
+        ensures hands { 0 < deque_len worker.old.batch → worker.old.batch.items ≡ option_to_list result ++ worker.new.batch.items }
+        ensures found { 0 < deque_len worker.old.batch → IsSome result }
     {
         let item = self.find_next(rt, worker);
         if item.is_some() {
@@ -387,7 +415,10 @@ impl<T, A: Allocator> Crew<T, A> {
         item
     }
 
-    fn find_next<R: Wait>(&self, rt: &R, worker: &mut Worker<T, A>) -> Option<T> {
+    fn find_next<R: Wait>(&self, rt: &R, worker: &mut Worker<T, A>) -> Option<T>
+        ensures hands { 0 < deque_len worker.old.batch → worker.old.batch.items ≡ option_to_list result ++ worker.new.batch.items }
+        ensures found { 0 < deque_len worker.old.batch → IsSome result }
+    {
         if let Some(item) = worker.batch.pop_front() {
             return Some(item);
         }
@@ -435,21 +466,19 @@ impl<T, A: Allocator> Crew<T, A> {
 
     /// Searches for a while, if no other worker does, and then sleeps, if no queue has an item and there was no interruption since `interruptions` were counted. It ends at the limit, a search at most one round of looks later. It may also return for no reason.
     ///
-    /// The worker owes a look then, and may have heard an interruption. A `find` that answers an item ends what is owed, and the next rest takes it over. Else call `settle` once the worker has looked again, or `pay` where it does not.
+    /// The worker owes a look then. `None` where it has heard an interruption, and otherwise none was due. A `find` that answers an item ends what is owed, and the next rest takes it over. Else call `settle` once the worker has looked again, or `pay` where it does not.
     pub fn rest<R: Wait, L: Limit>(
         &self,
         rt: &R,
         worker: &mut Worker<T, A>,
         interruptions: u64,
         limit: &L,
-    )
-        ensures { IsSome worker.new.owed }
+    ) -> Option<NotDue>
+        ensures owed { IsSome worker.new.owed }
+        ensures heard { IsNone result → IsSome worker.new.heard }
     {
-        let look = match worker.owed.take() {
-            Some(look) => look,
-            None => worker.bells.look(),
-        };
-        let look = match worker.bells.begin_search(look) {
+        let owed = worker.owed.take();
+        let look = match worker.bells.begin_search(owed) {
             Ok(search) => {
                 let sees = self.sees_work(worker.number, interruptions, limit);
                 let look = worker.bells.end_search(search);
@@ -462,6 +491,6 @@ impl<T, A: Allocator> Crew<T, A> {
             Err(look) => worker.lie_down(rt, look, interruptions, limit),
         };
         worker.owe(look);
-        worker.hear();
+        worker.hear()
     }
 }

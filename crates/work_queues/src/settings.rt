@@ -1,5 +1,5 @@
 //! The numbers of a crew that can be set.
-ghost use Rattle.std.specs.Prelude.{◌≡◌, max};
+ghost use Rattle.std.specs.Prelude.{◌≡◌, ◌<◌, max};
 
 /// How much room a queue has at first.
 const ROOM: usize = 64;
@@ -20,6 +20,7 @@ pub struct Settings {
     pub(crate) batch: usize,
     pub(crate) outside_every: u64,
     pub(crate) search_looks: usize,
+    ghost some: { 0 < batch },
 }
 
 impl Default for Settings {

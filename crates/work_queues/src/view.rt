@@ -20,6 +20,10 @@ pub struct View {
     pub ghost searching: { ℕ },
     /// 0, or 1 where it counts as a sleeper, or one more than the word of the worker that it put to sleep.
     pub ghost asleep: { ℕ },
+    /// What it knows of the interruption: 0 nothing, or `due`, `not_due` or `taken`.
+    pub ghost interruption: { ℕ },
+    /// One more than the word of the worker that it has interrupted, or 0.
+    pub ghost interrupted: { ℕ },
 }
 
 impl Model for View {

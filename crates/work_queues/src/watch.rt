@@ -1,5 +1,5 @@
 //! The rule of sleep, and the names of the steps on it.
-ghost use Rattle.work_queues.specs.Sleep.{Watch, blank, Enters, EntersOwing, Takes, GivesBack, Shows, Hides, Interrupts, TellsNothing, LooksForSleepers, LooksForSearcher, LooksAtWorker, Wakes, LooksAtFlag, Settles, BeginsSearch, EndsSearch, Counts, LiesDown, GetsUp, CountsNot};
+ghost use Rattle.work_queues.specs.Sleep.{Watch, blank, Enters, EntersOwing, Takes, GivesBack, Shows, Hides, Interrupts, LooksWhetherDue, Hears, Permits, Rouses, LooksForSleepers, LooksForSearcher, LooksAtWorker, Wakes, LooksAtFlag, Settles, BeginsSearch, EndsSearch, Counts, LiesDown, GetsUp, CountsNot};
 
 use crate::view::View;
 use atomic_table::{Play, TableRule};
@@ -63,11 +63,32 @@ impl<S> Play<S, View> for Interrupt {
     ghost then = { Interrupts };
 }
 
-/// A step that tells nothing.
-pub struct Plain;
+/// A look whether an interruption is due.
+pub struct LookWhetherDue;
 
-impl<S> Play<S, View> for Plain {
-    ghost then = { TellsNothing };
+impl<S> Play<S, View> for LookWhetherDue {
+    ghost then = { LooksWhetherDue };
+}
+
+/// The interruption that was due is taken.
+pub struct Hear;
+
+impl<S> Play<S, View> for Hear {
+    ghost then = { Hears };
+}
+
+/// A worker that is awake is interrupted.
+pub struct Permit;
+
+impl<S> Play<S, View> for Permit {
+    ghost then = { Permits };
+}
+
+/// A worker that was asleep is woken.
+pub struct Rouse;
+
+impl<S> Play<S, View> for Rouse {
+    ghost then = { Rouses };
 }
 
 /// A look whether a worker sleeps.

@@ -1,13 +1,8 @@
 //! Making tasks.
 use alloc::boxed::Box;
-use core::future::Future;
-use core::marker::PhantomData;
-use core::mem::size_of;
+use core::{future::Future, mem::size_of};
 
-use crate::body::Body;
-use crate::runnable::Runnable;
-use crate::schedule::Schedule;
-use crate::task::Task;
+use crate::{body::Body, runnable::Runnable, schedule::Schedule, task::Task};
 
 /// From this size on a future gets an allocation of its own.
 const LARGE: usize = 2048;
@@ -23,7 +18,6 @@ const LARGE: usize = 2048;
 #[derive(Debug)]
 pub struct Builder<M> {
     pub(crate) metadata: M,
-    #[cfg(feature = "std")]
     pub(crate) propagate_panic: bool,
 }
 
@@ -42,11 +36,7 @@ impl Builder<()> {
     /// assert!(task.is_finished());
     /// ```
     pub fn new() -> Builder<()> {
-        Builder {
-            metadata: (),
-            #[cfg(feature = "std")]
-            propagate_panic: false,
-        }
+        Builder { metadata: (), propagate_panic: false }
     }
 
     /// Adds metadata, which the Runnable and the Task show.
@@ -57,11 +47,7 @@ impl Builder<()> {
     /// # drop(task);
     /// ```
     pub fn metadata<M>(self, metadata: M) -> Builder<M> {
-        Builder {
-            metadata,
-            #[cfg(feature = "std")]
-            propagate_panic: self.propagate_panic,
-        }
+        Builder { metadata, propagate_panic: self.propagate_panic }
     }
 }
 
@@ -141,12 +127,11 @@ impl<M> Builder<M> {
         S: Schedule<M>,
         M: 'a,
     {
-        let (runnable, task) = if size_of::<Fut>() >= LARGE {
+        if size_of::<Fut>() >= LARGE {
             Body::allocate(|metadata| Box::pin(future(metadata)), schedule, self)
         } else {
             Body::allocate(future, schedule, self)
-        };
-        (Runnable::new(runnable), Task { ptr: task.into_raw(), marker: PhantomData })
+        }
     }
 }
 

@@ -1,36 +1,29 @@
-//! The proved cell: its exports, the steps that they are, and the acts that these ask for.
+//! The proved cell: the steps that its exports are, and the acts that these ask for.
 mod acts;
 mod at;
-mod exports;
 mod heap;
 mod steps;
 
-pub(crate) use acts::{or_abort, wake_taken};
-pub(crate) use at::At;
-pub(crate) use heap::ROOM;
-pub(crate) use steps::*;
+pub(crate) use self::{acts::*, at::*, heap::ROOM, steps::*};
 
-/// Does something last, also where what comes before panics.
-pub(crate) struct Finally<A, F: FnOnce() -> A>(Option<F>);
+/// Does something with a value where it is dropped, as in a panic of what comes next.
+pub(crate) struct Finally<V, F: FnOnce(V)>(Option<(V, F)>);
 
-impl<A, F: FnOnce() -> A> Finally<A, F> {
-    #[inline]
-    pub(crate) fn new(last: F) -> Self {
-        Finally(Some(last))
+impl<V, F: FnOnce(V)> Finally<V, F> {
+    pub(crate) fn new(value: V, last: F) -> Self {
+        Finally(Some((value, last)))
     }
 
-    /// Does it now.
-    #[inline]
-    pub(crate) fn now(mut self) -> A {
-        self.0.take().map_or_else(|| abort(), |last| last())
+    /// The value, with nothing to do any more.
+    pub(crate) fn into_value(mut self) -> V {
+        self.0.take().map_or_else(|| abort(), |(value, _)| value)
     }
 }
 
-impl<A, F: FnOnce() -> A> Drop for Finally<A, F> {
-    #[inline]
+impl<V, F: FnOnce(V)> Drop for Finally<V, F> {
     fn drop(&mut self) {
-        if let Some(last) = self.0.take() {
-            last();
+        if let Some((value, last)) = self.0.take() {
+            last(value);
         }
     }
 }
@@ -38,6 +31,6 @@ impl<A, F: FnOnce() -> A> Drop for Finally<A, F> {
 /// Ends the process, by a panic in a panic.
 #[cold]
 pub(crate) fn abort() -> ! {
-    let _again = Finally::new(|| -> () { panic!("async-task ends the process") });
+    let _again = Finally::new((), |()| panic!("async-task ends the process"));
     panic!("async-task ends the process");
 }

@@ -30,15 +30,14 @@ mod builder;
 mod cell;
 #[cfg(feature = "std")]
 mod local;
+mod panics;
 mod run;
 mod runnable;
 mod schedule;
 mod task;
 mod waker;
 
-#[cfg(feature = "std")]
-pub use crate::builder::spawn_local;
-pub use crate::builder::{spawn, spawn_unchecked, Builder};
+pub use crate::builder::*;
 pub use crate::runnable::Runnable;
 pub use crate::schedule::{Schedule, ScheduleInfo, WithInfo};
 pub use crate::task::{FallibleTask, Task};

@@ -1,9 +1,6 @@
 //! Futures of one thread.
-use std::future::Future;
-use std::mem::ManuallyDrop;
-use std::pin::Pin;
-use std::task::{Context, Poll};
 use std::thread::{self, ThreadId};
+use std::{future::Future, mem::ManuallyDrop, pin::Pin, task::Context, task::Poll};
 
 /// This thread.
 fn here() -> ThreadId {

@@ -1,144 +1,105 @@
 //! The calls of a Runnable, as the cell asks for their steps.
-use core::future::Future;
-use core::mem::ManuallyDrop;
-use core::ptr::NonNull;
-use core::task::{Context, Poll, Waker};
+use core::{future::Future, mem::ManuallyDrop, pin::Pin, ptr::NonNull, task::Context, task::Poll, task::Waker};
 
-use crate::body::{Body, Outcome};
-use crate::cell::*;
-use crate::schedule::Schedule;
-use crate::waker;
+use crate::{body::Body, body::Outcome, cell::*, panics::caught, schedule::Schedule, waker};
 
-/// A run in its poll: where that panics, the task is closed.
-struct Poller(Option<At<Polling>>);
-
-impl Drop for Poller {
-    #[inline]
-    fn drop(&mut self) {
-        match self.0.take().map(At::panicked) {
-            None => {}
-            Some(Ok(at)) => end_discard(at),
-            Some(Err(at)) => end_run(at.drop_future().end()),
+impl<F: Future, S: Schedule<M>, M> Body<F, S, M> {
+    /// Runs a task: whether it was woken meanwhile, and gave way.
+    ///
+    /// # Safety
+    ///
+    /// The task is of these types, and its Runnable goes to this call.
+    pub(crate) unsafe fn run(task: NonNull<()>) -> bool {
+        match At::<Scheduled>::of(task).choose::<Starts>() {
+            Started::Closed(at) => end_closed(at),
+            Started::Polls(at) => match Self::poll(at, task) {
+                (at, Poll::Pending) => end_pending(at.choose::<Pends>()),
+                (at, Poll::Ready(outcome)) => Self::end_ready(at, task, outcome),
+            },
         }
+    }
+
+    /// Polls the future, with a waker that is lent.
+    unsafe fn poll(at: At<Polling>, task: NonNull<()>) -> (At<Polling>, Poll<Outcome<F::Output>>) {
+        let waker = ManuallyDrop::new(Waker::from_raw(waker::raw(task)));
+        let context = &mut Context::from_waker(&waker);
+        let future = Pin::new_unchecked(&mut *Self::stage::<F>(task));
+        if at.header().propagate_panic {
+            let answer = caught(|| future.poll(context));
+            return (at, answer.map_or_else(|panic| Poll::Ready(Err(panic)), |answer| answer.map(Ok)));
+        }
+        let closes = Finally::new(at, end_panicked);
+        let answer = future.poll(context).map(Ok);
+        (closes.into_value(), answer)
+    }
+
+    /// Ends a run whose poll was ready, with what the task ends with.
+    unsafe fn end_ready(at: At<Polling>, task: NonNull<()>, outcome: Outcome<F::Output>) -> bool {
+        end_run(match store_output(at.ready(), Self::stage::<F>(task), outcome) {
+            Completed::Left(leaving) => leaving,
+            Completed::Unclaimed(at) => drop_output(at, Self::stage::<Outcome<F::Output>>(task)),
+            Completed::UnclaimedDue(at) => drop_output(at, Self::stage::<Outcome<F::Output>>(task)),
+        })
     }
 }
 
-/// Runs a task: whether it was woken meanwhile, and gave way.
-///
-/// # Safety
-///
-/// The task is of these types, and its Runnable goes to this call.
-pub(crate) unsafe fn run<F, T, S, M>(task: NonNull<()>) -> bool
-where
-    F: Future<Output = T>,
-    S: Schedule<M>,
-{
-    let at = match At::of(task).start() {
-        Started::Polls(at) => at,
-        Started::Closed(at) => {
-            end_run(at.drop_future().end());
-            return false;
-        }
-    };
-    let (at, answer) = poll::<F, T, S, M>(at, task);
-    match answer {
-        Poll::Ready(outcome) => {
-            end_ready(at, outcome);
-            false
-        }
-        Poll::Pending => end_pending(at.pending()),
+/// Ends a run whose poll has panicked: the task is closed.
+#[cold]
+fn end_panicked(at: At<Polling>) {
+    match at.panicked() {
+        Ok(at) => discard(at),
+        Err(at) => drop(end_closed(at)),
     }
 }
 
-/// Polls the future, with a waker that is lent.
-#[inline]
-unsafe fn poll<F, T, S, M>(at: At<Polling>, task: NonNull<()>) -> (At<Polling>, Poll<Outcome<T>>)
-where
-    F: Future<Output = T>,
-    S: Schedule<M>,
-{
-    let waker = ManuallyDrop::new(Waker::from_raw(waker::raw(task)));
-    let context = &mut Context::from_waker(&waker);
-    #[cfg(feature = "std")]
-    if at.header().propagate_panic {
-        let polled = std::panic::AssertUnwindSafe(|| Body::<F, T, S, M>::poll(task, context));
-        let answer = match std::panic::catch_unwind(polled) {
-            Ok(answer) => answer.map(Ok),
-            Err(panic) => Poll::Ready(Err(panic)),
-        };
-        return (at, answer);
-    }
-    let mut poller = Poller(Some(at));
-    let answer = Body::<F, T, S, M>::poll(task, context).map(Ok);
-    match poller.0.take() {
-        Some(at) => (at, answer),
-        None => abort(),
-    }
+/// Ends a run of a task that was closed.
+#[cold]
+fn end_closed<N: Step<Then = Leaving<RunTaken>>>(at: At<DropsFuture, N>) -> bool {
+    end_run(drop_future(at))
 }
 
 /// Ends a run whose poll was pending.
-#[inline]
+#[inline(always)]
 fn end_pending(pended: Pended) -> bool {
     match pended {
-        Pended::Idle(At { .. }) => false,
-        Pended::Orphan(at) => at.hand_over(),
-        Pended::Woken(at) => at.hand_over(),
-        Pended::Closed(at) => {
-            end_run(at.drop_future().end());
-            false
-        }
+        Pended::Idle => false,
+        Pended::Orphan(at) => hand_on(at),
+        Pended::Woken(at) => hand_on(at),
+        Pended::Closed(at) => end_closed(at),
     }
 }
 
-/// Ends a run whose poll was ready, with what the task ends with.
-#[inline]
-unsafe fn end_ready<T>(at: At<Polling>, outcome: Outcome<T>) {
-    end_run(match at.ready().drop_future().store(outcome).complete() {
-        Completed::Left(leaving) => leaving,
-        Completed::Unclaimed(at) => at.drop_output::<T>().end(),
-        Completed::UnclaimedDue(at) => at.drop_output::<T>().end(),
-    });
-}
-
-/// Ends a run: an awaiter that was taken is woken last.
-#[inline]
-fn end_run(leaving: Leaving<RunTaken>) {
+/// Ends a run that does not give way: an awaiter that was taken is woken last.
+#[inline(always)]
+fn end_run(leaving: Leaving<RunTaken>) -> bool {
     match leaving {
         Leaving::Left(left) => left.finish(),
-        Leaving::Takes(at) => end_taken(at.take()),
+        Leaving::Takes(at) => end_taken(at),
     }
+    false
 }
 
-/// Ends a run that emptied the awaiter's place.
-fn end_taken((awaiter, at): (Option<Waker>, At<RunTaken>)) {
-    match at.end() {
-        Finished::Nothing(At { .. }) => {}
-        Finished::Last(at) => at.empty().end().finish(),
-        Finished::Wakes(at) => {
-            let At { .. } = at.wake(awaiter);
-        }
-        Finished::LastWakes(at) => {
-            at.empty().end().finish();
+/// Ends a run that empties the awaiter's place.
+#[inline(never)]
+fn end_taken(at: At<TakesAwaiter, RunTaken>) {
+    match take_awaiter(at) {
+        (_, Finished::Nothing) => {}
+        (_, Finished::Last(at)) => empty(at),
+        (awaiter, Finished::Wakes(at)) => wake_awaiter(at, awaiter),
+        (awaiter, Finished::LastWakes(at)) => {
+            empty(at);
             wake_taken(awaiter);
         }
     }
 }
 
-/// Drops a Runnable, which cancels the task.
+/// Drops a Runnable, which cancels the task: an awaiter that was taken is woken first.
 pub(crate) fn discard(at: At<Scheduled>) {
-    end_discard(at.discard());
-}
-
-/// Ends the drop of a Runnable: an awaiter that was taken is woken first.
-fn end_discard(at: At<DropsFuture, Discarded>) {
-    match at.drop_future().end() {
+    match drop_future(at.choose::<Discards>()) {
         Leaving::Left(left) => left.finish(),
-        Leaving::Takes(at) => {
-            let (awaiter, at) = at.take();
-            match at.end() {
-                DiscardEnds::Left(left) => left.finish(),
-                DiscardEnds::Wakes(at) => at.wake(awaiter).end().finish(),
-            }
-        }
+        Leaving::Takes(at) => match take_awaiter(at) {
+            (_, DiscardEnds::Left(left)) => left.finish(),
+            (awaiter, DiscardEnds::Wakes(at)) => wake_awaiter(at, awaiter).finish(),
+        },
     }
 }

@@ -1,13 +1,7 @@
 //! The Runnable.
-use core::fmt;
-use core::marker::PhantomData;
-use core::mem::forget;
-use core::ptr::NonNull;
-use core::task::Waker;
+use core::{fmt, marker::PhantomData, mem::forget, ptr::NonNull, task::Waker};
 
-use crate::body::HeaderWith;
-use crate::cell::{At, Scheduled};
-use crate::{run, waker};
+use crate::{body::Header, cell::*, run, waker};
 
 /// A task that is due: it exists while the task is scheduled, and there is one at most.
 ///
@@ -20,7 +14,7 @@ use crate::{run, waker};
 /// ```
 pub struct Runnable<M = ()> {
     ptr: NonNull<()>,
-    marker: PhantomData<M>,
+    marker: PhantomData<fn() -> M>,
 }
 
 // SAFETY: a future, output or schedule function that has to stay on a thread is promised to by `spawn_unchecked`; metadata is shared.
@@ -28,20 +22,8 @@ unsafe impl<M: Send + Sync> Send for Runnable<M> {}
 // SAFETY: as above; by reference it makes wakers and shows its metadata.
 unsafe impl<M: Send + Sync> Sync for Runnable<M> {}
 
-#[cfg(feature = "std")]
-impl<M> std::panic::UnwindSafe for Runnable<M> {}
-#[cfg(feature = "std")]
-impl<M> std::panic::RefUnwindSafe for Runnable<M> {}
-
 impl<M> Runnable<M> {
-    /// The Runnable of this handle.
-    #[inline]
-    pub(crate) fn new(at: At<Scheduled>) -> Self {
-        Runnable { ptr: at.into_raw(), marker: PhantomData }
-    }
-
     /// The handle of this Runnable.
-    #[inline]
     fn into_at(self) -> At<Scheduled> {
         // SAFETY: the Runnable is its one user, and is gone with this.
         unsafe { At::of(self.into_raw()) }
@@ -56,7 +38,7 @@ impl<M> Runnable<M> {
     /// ```
     pub fn metadata(&self) -> &M {
         // SAFETY: the Runnable keeps the allocation, whose metadata is an `M`.
-        unsafe { &self.ptr.cast::<HeaderWith<M>>().as_ref().metadata }
+        unsafe { &self.ptr.cast::<Header<M>>().as_ref().metadata }
     }
 
     /// Hands the Runnable to the schedule function.
@@ -69,7 +51,7 @@ impl<M> Runnable<M> {
     /// # drop(task);
     /// ```
     pub fn schedule(self) {
-        self.into_at().schedule().hand_over();
+        hand_on(self.into_at().choose::<Schedules>());
     }
 
     /// Polls the future once. The answer is whether the task was woken meanwhile, so that its Runnable is with the schedule function again.
@@ -102,7 +84,7 @@ impl<M> Runnable<M> {
     /// ```
     pub fn waker(&self) -> Waker {
         // SAFETY: a Runnable can be lent for the call, which leaves the reference of the waker.
-        unsafe { Waker::from_raw(waker::raw(At::<crate::cell::Lent>::of(self.ptr).gain())) }
+        unsafe { Waker::from_raw(waker::raw(At::<Lent>::of(self.ptr).choose::<Gains>().into_raw())) }
     }
 
     /// The Runnable as a pointer, which [`from_raw`](Runnable::from_raw) turns back.

@@ -53,7 +53,6 @@ pub trait Schedule<M = ()>: sealed::Sealed<M> {
 }
 
 impl<M, F: Fn(Runnable<M>)> Schedule<M> for F {
-    #[inline]
     fn schedule(&self, runnable: Runnable<M>, _: ScheduleInfo) {
         self(runnable)
     }
@@ -79,7 +78,6 @@ impl<F> From<F> for WithInfo<F> {
 }
 
 impl<M, F: Fn(Runnable<M>, ScheduleInfo)> Schedule<M> for WithInfo<F> {
-    #[inline]
     fn schedule(&self, runnable: Runnable<M>, info: ScheduleInfo) {
         (self.0)(runnable, info)
     }

@@ -1,15 +1,7 @@
 //! The Task.
-use core::fmt;
-use core::future::Future;
-use core::marker::PhantomData;
-use core::mem::forget;
-use core::pin::Pin;
-use core::ptr::NonNull;
-use core::task::{Context, Poll};
+use core::{fmt, future::Future, marker::PhantomData, mem::forget, pin::Pin, ptr::NonNull, task::Context, task::Poll};
 
-use crate::await_task;
-use crate::body::HeaderWith;
-use crate::cell::{At, Lent, Resting};
+use crate::{await_task, body::Header, cell::*, panics::resume};
 
 /// Awaits the output of a task. Its drop cancels the task.
 ///
@@ -25,18 +17,13 @@ use crate::cell::{At, Lent, Resting};
 #[must_use = "tasks get canceled when dropped, use `.detach()` to run them in the background"]
 pub struct Task<T, M = ()> {
     pub(crate) ptr: NonNull<()>,
-    pub(crate) marker: PhantomData<(T, M)>,
+    pub(crate) marker: PhantomData<fn() -> (T, M)>,
 }
 
 // SAFETY: the output may go with the Task; metadata is shared; for the rest see `Runnable`.
 unsafe impl<T: Send, M: Send + Sync> Send for Task<T, M> {}
 // SAFETY: by reference a Task shows its metadata, and whether it is finished.
 unsafe impl<T, M: Send + Sync> Sync for Task<T, M> {}
-impl<T, M> Unpin for Task<T, M> {}
-#[cfg(feature = "std")]
-impl<T, M> std::panic::UnwindSafe for Task<T, M> {}
-#[cfg(feature = "std")]
-impl<T, M> std::panic::RefUnwindSafe for Task<T, M> {}
 
 impl<T, M> Task<T, M> {
     /// Lets the task go on without its Task, in the background.
@@ -90,7 +77,7 @@ impl<T, M> Task<T, M> {
     /// ```
     pub fn is_finished(&self) -> bool {
         // SAFETY: a Task can be lent for the call.
-        unsafe { At::<Lent>::of(self.ptr) }.is_finished()
+        unsafe { At::<Lent>::of(self.ptr) }.choose::<IsFinished>()
     }
 
     /// The metadata of the task.
@@ -102,22 +89,20 @@ impl<T, M> Task<T, M> {
     /// ```
     pub fn metadata(&self) -> &M {
         // SAFETY: the Task keeps the allocation, whose metadata is an `M`.
-        unsafe { &self.ptr.cast::<HeaderWith<M>>().as_ref().metadata }
+        unsafe { &self.ptr.cast::<Header<M>>().as_ref().metadata }
     }
 
     /// The handle of this Task, for a call that leaves it resting or ends it.
-    #[inline]
     fn at(&self) -> At<Resting> {
         // SAFETY: each caller has the Task alone, for one such call at a time.
         unsafe { At::of(self.ptr) }
     }
 
     /// Polls the Task: the output, or `None` where the task was closed. A panic that goes to who awaits goes on here.
-    #[inline]
     fn poll_output(&mut self, context: &Context<'_>) -> Poll<Option<T>> {
         // SAFETY: `T` is the type of the output.
         let (answer, At { .. }) = unsafe { await_task::poll(self.at(), context.waker()) };
-        answer.map(|outcome| outcome.map(await_task::unwrap))
+        answer.map(|outcome| outcome.map(|outcome| outcome.unwrap_or_else(|panic| resume(panic))))
     }
 }
 

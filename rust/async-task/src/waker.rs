@@ -1,8 +1,7 @@
 //! The wakers of a task.
-use core::ptr::NonNull;
-use core::task::{RawWaker, RawWakerVTable};
+use core::{ptr::NonNull, task::RawWaker, task::RawWakerVTable};
 
-use crate::cell::{At, Finally, GivesUp, Lent};
+use crate::cell::*;
 
 /// All wakers of all tasks call these.
 static WAKER: RawWakerVTable = RawWakerVTable::new(clone, wake, wake_by_ref, give_up);
@@ -16,26 +15,25 @@ pub(crate) fn raw(task: NonNull<()>) -> RawWaker {
 // SAFETY, of all below: a waker calls them with the data of `raw`, by value where it ends; so there is its handle.
 
 /// The handle of the waker with this data, at `P`.
-#[inline]
 unsafe fn at<P>(data: *const ()) -> At<P> {
     At::of(NonNull::new_unchecked(data as *mut ()))
 }
 
 unsafe fn clone(data: *const ()) -> RawWaker {
-    raw(at::<Lent>(data).gain())
+    raw(at::<Lent>(data).choose::<Gains>().into_raw())
 }
 
 unsafe fn wake_by_ref(data: *const ()) {
-    if let Some(idle) = at::<Lent>(data).wake() {
-        idle.hand_over(|At { .. }| {});
+    if let Woken::Idle(at) = at::<Lent>(data).choose::<Wakes>() {
+        deliver(at, |()| {});
     }
 }
 
 unsafe fn wake(data: *const ()) {
-    let _after = Finally::new(|| give_up(data));
+    let _after = Finally::new(data, |data| give_up(data));
     wake_by_ref(data);
 }
 
 unsafe fn give_up(data: *const ()) {
-    at::<GivesUp>(data).end().finish();
+    Owned::step(at(data)).finish();
 }

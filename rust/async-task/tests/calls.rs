@@ -66,6 +66,25 @@ fn yield_to_the_queue() {
 }
 
 #[test]
+fn an_output_that_nobody_claims_is_dropped_last() {
+    struct Last(Count);
+    impl Drop for Last {
+        fn drop(&mut self) {
+            assert_eq!(self.0.get(), 1);
+            self.0.add();
+        }
+    }
+    let dropped = Count::default();
+    let (output, guard) = (Last(dropped.clone()), dropped.dropped());
+    let (runnable, task) = spawn(async move { output }, move |_: Runnable| {
+        let _guard = &guard;
+    });
+    runnable.run();
+    task.detach();
+    assert_eq!(dropped.get(), 2);
+}
+
+#[test]
 fn detach_then_run() {
     let (runnable, task, seen, queue) = task(1, false);
     task.detach();
@@ -324,4 +343,13 @@ fn a_builder_keeps_what_it_was_told() {
     let (runnable, task) = builder.spawn(|_| async { panic!("of the future") }, |_| {});
     assert!(!runnable.run());
     task.detach();
+}
+
+#[test]
+fn auto_traits() {
+    fn shared<T: Send + Sync>() {}
+    fn unwinds_and_moves<T: std::panic::UnwindSafe + std::panic::RefUnwindSafe + Unpin>() {}
+    type Kept = (std::cell::Cell<u8>, &'static mut u8, std::marker::PhantomPinned);
+    shared::<(Runnable<u8>, Task<std::cell::Cell<u8>, u8>)>();
+    unwinds_and_moves::<(Runnable<Kept>, Task<Kept, Kept>)>();
 }

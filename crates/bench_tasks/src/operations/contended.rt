@@ -114,7 +114,7 @@ fn wakers_of<'x, R: Wait + Drop + Copy>(
 ) -> Result<Vec<QueueWaker<'x, R, Pending>>, AllocError> {
     let mut wakers = Vec::new(alloc);
     for _ in 0..number {
-        let Some(waker) = runnable.waker() else {
+        let Ok(waker) = runnable.waker() else {
             return Err(AllocError);
         };
         wakers.push(waker)?;

@@ -101,8 +101,8 @@ impl<R: Wait + Drop + Copy, F: Yields, B: Allocator + Copy> Queue<R, F, B> {
     pub fn spawn_with_waker(&self, future: F) -> Result<QueueParties<'_, R, F, B>, AllocError> {
         let (runnable, task) = self.spawn(future)?;
         match runnable.waker() {
-            Some(waker) => Ok((runnable, task, waker)),
-            None => Err(AllocError),
+            Ok(waker) => Ok((runnable, task, waker)),
+            Err(_) => Err(AllocError),
         }
     }
 

@@ -83,14 +83,15 @@ where
         spawn_jobs(pool, &course.tally, course.line.yields())?;
     }
     let grown = course.start.grown(rt, alloc);
-    let (elapsed, ()) = thread::join(
-        rt,
-        || {
-            work_all(rt, alloc, pool);
-            course.start.elapsed(rt)
-        },
-        || oversee(rt, pool, course),
-    );
+    let elapsed = thread::scope(thread::scope_env(), rt, |scope| {
+        // Without the thread that oversees, workers of a row that hands over would sleep for ever.
+        if scope.spawn(move || oversee(rt, pool, course)).is_err() {
+            return None;
+        }
+        work_all(rt, alloc, pool);
+        Some(course.start.elapsed(rt))
+    });
+    let elapsed = elapsed.ok_or(Failure::NoThread)?;
     Measured::new(&course.tally, elapsed?, grown)
 }
 

@@ -37,8 +37,8 @@ where
 
     fn share(&self, shared: &mut Option<MailWaker<R>>) -> bool {
         match self.try_clone() {
-            Some(clone) => self.around().desk().keep(clone.with_around(()), shared),
-            None => false,
+            Ok(clone) => self.around().desk().keep(clone.with_around(()), shared),
+            Err(_) => false,
         }
     }
 }

@@ -1,6 +1,7 @@
 //! The shared waker: an awaiter, and the key under which the executor keeps the waker of the task.
-ghost use Rattle.std.specs.Prelude.{⊤, ◌≡◌, false, IfSome};
+ghost use Rattle.std.specs.Prelude.{◌≡◌, Some, false, IfOk, IfSome};
 ghost use Rattle.std.specs.Arc.{arc_value};
+ghost use Rattle.executor.specs.Polled.{Shows};
 
 use crate::store::Key;
 use async_task::Wake;
@@ -42,26 +43,31 @@ impl<R: Wait + Drop + Copy, A: Wake> SharedWaker<R, A> {
 }
 
 impl<R: Wait + Drop + Copy, A: Wake> Wake for SharedWaker<R, A> {
-    ghost woken = { λ shared. A.woken_by_ref (arc_value shared.seat).awaiter };
+    // That of the wake of the awaiter. A clone is refused without a wake: `None`.
+    type Record = Option<A::Record>;
 
-    ghost woken_by_ref = { λ shared. A.woken_by_ref (arc_value shared.seat).awaiter };
+    ghost woken = { λ shared ended. Shows (A.woken_by_ref (arc_value shared.seat).awaiter) ended };
 
-    ghost cloned = { λ shared clone. IfSome clone (λ other. arc_value other.seat ≡ arc_value shared.seat) };
+    ghost woken_by_ref = { λ shared ended. Shows (A.woken_by_ref (arc_value shared.seat).awaiter) ended };
+
+    ghost cloned = { λ shared clone. IfOk clone (λ other. arc_value other.seat ≡ arc_value shared.seat) };
 
     ghost compared = { λ _ _ answer. answer ≡ false };
 
-    fn wake(self) {
-        self.wake_by_ref();
+    fn wake(self) -> Option<A::Record> {
+        self.wake_by_ref()
     }
 
-    fn wake_by_ref(&self) {
-        self.seat.awaiter.wake_by_ref();
+    fn wake_by_ref(&self) -> Option<A::Record> {
+        Some(self.seat.awaiter.wake_by_ref())
     }
 
-    /// `None` says that the shared waker has as many owners as can be counted.
-    fn try_clone(&self) -> Option<SharedWaker<R, A>> {
-        let seat = Arc::try_clone(&self.seat).ok()?;
-        Some(SharedWaker { seat })
+    /// An `Err` says that the shared waker has as many owners as can be counted.
+    fn try_clone(&self) -> Result<SharedWaker<R, A>, Option<A::Record>> {
+        let Ok(seat) = Arc::try_clone(&self.seat) else {
+            return Err(None);
+        };
+        Ok(SharedWaker { seat })
     }
 
     // Two shares cannot be told to be of one task: a wake too many has it polled once more.

@@ -36,7 +36,7 @@ impl<S: Wake, W: Share<S>, F: Future<S>> Future<W> for Sharing<F, S> {
     ghost use Rattle.executor.specs.Polled.{PolledBy};
 
     // The future inside was polled by the shared waker of the task, or nothing was polled, and the task woke itself.
-    ghost polled = { λ old waker answer new. PolledBy F.polled (W.made waker) (W.Wake.woken_by_ref waker) old.shared new.shared old.inner answer new.inner };
+    ghost polled = { λ old waker answer new. PolledBy F.polled (W.made waker) ((ended : _) × W.Wake.woken_by_ref waker ended) old.shared new.shared old.inner answer new.inner };
 
     fn poll(&mut self, waker: &W) -> Poll<F::Output> {
         if !waker.share(&mut self.shared) {

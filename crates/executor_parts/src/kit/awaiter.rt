@@ -47,9 +47,11 @@ impl<B: Allocator> KitAwaiter<B> {
 }
 
 impl<B: Allocator> Wake for KitAwaiter<B> {
-    ghost woken = { λ _. ⊤ };
+    type Record = ();
 
-    ghost woken_by_ref = { λ _. ⊤ };
+    ghost woken = { λ _ _. ⊤ };
+
+    ghost woken_by_ref = { λ _ _. ⊤ };
 
     ghost cloned = { SharesSlot };
 
@@ -70,9 +72,11 @@ impl<B: Allocator> Wake for KitAwaiter<B> {
         }
     }
 
-    fn try_clone(&self) -> Option<KitAwaiter<B>> {
-        let slot = Arc::try_clone(&self.slot).ok()?;
-        Some(KitAwaiter { slot })
+    fn try_clone(&self) -> Result<KitAwaiter<B>, ()> {
+        let Ok(slot) = Arc::try_clone(&self.slot) else {
+            return Err(());
+        };
+        Ok(KitAwaiter { slot })
     }
 
     // Two shares of a slot cannot be told to be of one: a wake too many polls the kit's task once more.

@@ -1,6 +1,7 @@
 use Rattle.task_atomic.proofs.NextDeeds.{deeds_are_acts}
 use Rattle.task_atomic.proofs.CodeCalls.{calls_are_acts, cells_are_runs}
+use Rattle.task_atomic.proofs.Explained.{witnesses_explain}
 use Rattle.task_atomic.proofs.code.Goals as goal
 
 pub returns : goal.returns
-returns g c = record { cells = cells_are_runs g.row.F.Denot g.row.T.Denot g.row.A.Denot; deeds = deeds_are_acts; calls = calls_are_acts }
+returns g c = record { cells = cells_are_runs g.row.F.Denot g.row.T.Denot g.row.A.Denot; deeds = deeds_are_acts; calls = calls_are_acts; witnesses = witnesses_explain }

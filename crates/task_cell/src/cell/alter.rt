@@ -22,7 +22,7 @@ impl<R: Drop, F: Yields, Q: Drop, M: Drop, A: Drop, B: Allocator + Copy> Share<R
         requires cell { IsOf self.now party.old }
         requires limit { (w : State) → P.attempt.ends party.old.seat.me.0.limit w ≡ P.attempt.ends (limit_in self.now) w }
         requires quiet { party.old.seat.me.0 ≡ having_seen None party.old.seat.me.0 }
-        requires allowed { MayTry (limit_in self.now) 3 party.old.seat.id party.old.seat.me P.attempt }
+        requires allowed { MayTry (limit_in self.now) 2 party.old.seat.id party.old.seat.me P.attempt }
         requires shares { MayBring (limit_in self.now) party.old.seat.id party.old.seat.me P.attempt }
         requires none { (row : P.Row) → P.attempt.counts row ≡ false }
         ensures cell { IfSome result (λ found. party.new.seat.block ≡ party.old.seat.block) }

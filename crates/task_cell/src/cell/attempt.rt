@@ -23,7 +23,7 @@ impl<R: Drop, F: Yields, Q: Drop, M: Drop, A: Drop, B: Allocator + Copy> Share<R
         requires cell { IsOf self.now party.old }
         requires limit { (w : State) → P.attempt.ends party.old.seat.me.0.limit w ≡ P.attempt.ends (limit_in self.now) w }
         requires seen { (t : Option Tries) × (party.old.seat.me.0 ≡ having_seen t party.old.seat.me.0) }
-        requires allowed { MayTry (limit_in self.now) 3 party.old.seat.id party.old.seat.me P.attempt }
+        requires allowed { MayTry (limit_in self.now) 2 party.old.seat.id party.old.seat.me P.attempt }
         ensures seat { (party.new.seat.block ≡ party.old.seat.block) × (party.new.seat.id ≡ party.old.seat.id) }
         ensures again { IfOk result (λ w. HasRoom w × HasSeen w party.old.seat.me party.new.seat.me) }
         ensures ended { IfErr result (λ w. HasEnded (limit_in self.now) P.attempt w party.old.seat.me party.new.seat.me) }
@@ -47,7 +47,7 @@ impl<R: Drop, F: Yields, Q: Drop, M: Drop, A: Drop, B: Allocator + Copy> Share<R
         requires limit { (w : State) → P.attempt.ends party.old.seat.me.0.limit w ≡ P.attempt.ends (limit_in self.now) w }
         requires room { HasRoom word }
         requires seen { (t : Option Tries) × Names word t × (party.old.seat.me.0 ≡ having_seen t party.old.seat.me.0) }
-        requires allowed { MayTry (limit_in self.now) 3 party.old.seat.id party.old.seat.me P.attempt }
+        requires allowed { MayTry (limit_in self.now) 2 party.old.seat.id party.old.seat.me P.attempt }
         requires shares { MayBring (limit_in self.now) party.old.seat.id party.old.seat.me P.attempt }
         ensures seat { (party.new.seat.block ≡ party.old.seat.block) × (party.new.seat.id ≡ party.old.seat.id) }
         ensures tried { HasTried (limit_in self.now) P.attempt result party.old.seat.me party.new.seat.me }
@@ -82,7 +82,7 @@ impl<R: Drop, F: Yields, Q: Drop, M: Drop, A: Drop, B: Allocator + Copy> Share<R
         requires limit { (w : State) → P.attempt.ends party.old.seat.me.0.limit w ≡ P.attempt.ends (limit_in self) w }
         requires room { HasRoom word }
         requires seen { (t : Option Tries) × Names word t × (party.old.seat.me.0 ≡ having_seen t party.old.seat.me.0) }
-        requires allowed { MayTry (limit_in self) 3 party.old.seat.id party.old.seat.me P.attempt }
+        requires allowed { MayTry (limit_in self) 2 party.old.seat.id party.old.seat.me P.attempt }
         requires shares { MayGive (limit_in self) party.old.seat.id party.old.seat.me P.attempt }
         ensures seat { (party.new.seat.block ≡ party.old.seat.block) × (party.new.seat.id ≡ party.old.seat.id) }
         ensures tried { HasTried (limit_in self) P.attempt result party.old.seat.me party.new.seat.me }
@@ -116,7 +116,7 @@ impl<R: Drop, F: Yields, Q: Drop, M: Drop, A: Drop, B: Allocator + Copy> Share<R
         requires limit { (w : State) → P.attempt.ends party.old.seat.me.0.limit w ≡ P.attempt.ends (limit_in self.now) w }
         requires room { HasRoom word }
         requires seen { (t : Option Tries) × Names word t × (party.old.seat.me.0 ≡ having_seen t party.old.seat.me.0) }
-        requires allowed { MayTry (limit_in self.now) 3 party.old.seat.id party.old.seat.me P.attempt }
+        requires allowed { MayTry (limit_in self.now) 2 party.old.seat.id party.old.seat.me P.attempt }
         requires shares { MayBring (limit_in self.now) party.old.seat.id party.old.seat.me P.attempt }
         ensures seat { (party.new.seat.block ≡ party.old.seat.block) × (party.new.seat.id ≡ party.old.seat.id) }
         ensures tried { HasTried (limit_in self.now) P.attempt result party.old.seat.me party.new.seat.me }
@@ -141,7 +141,7 @@ impl<R: Drop, F: Yields, Q: Drop, M: Drop, A: Drop, B: Allocator + Copy> Share<R
         requires cell { IsOf self.now party.old }
         requires limit { (w : State) → P.attempt.ends party.old.seat.me.0.limit w ≡ P.attempt.ends (limit_in self.now) w }
         requires quiet { party.old.seat.me.0 ≡ having_seen None party.old.seat.me.0 }
-        requires allowed { MayTry (limit_in self.now) 3 party.old.seat.id party.old.seat.me P.attempt }
+        requires allowed { MayTry (limit_in self.now) 2 party.old.seat.id party.old.seat.me P.attempt }
         requires shares { MayBring (limit_in self.now) party.old.seat.id party.old.seat.me P.attempt }
         ensures cell { party.new.seat.block ≡ party.old.seat.block }
         ensures tried { HasTried (limit_in self.now) P.attempt result party.old.seat.me party.new.seat.me }
@@ -164,7 +164,7 @@ impl<R: Drop, F: Yields, Q: Drop, M: Drop, A: Drop, B: Allocator + Copy> Share<R
         requires limit { (w : State) → P.attempt.ends party.old.seat.me.0.limit w ≡ P.attempt.ends (limit_in self) w }
         requires room { HasRoom word }
         requires seen { (t : Option Tries) × Names word t × (party.old.seat.me.0 ≡ having_seen t party.old.seat.me.0) }
-        requires allowed { MayTry (limit_in self) 3 party.old.seat.id party.old.seat.me P.attempt }
+        requires allowed { MayTry (limit_in self) 2 party.old.seat.id party.old.seat.me P.attempt }
         requires shares { MayGive (limit_in self) party.old.seat.id party.old.seat.me P.attempt }
         ensures seat { (party.new.seat.block ≡ party.old.seat.block) × (party.new.seat.id ≡ party.old.seat.id) }
         ensures tried { HasTried (limit_in self) P.attempt result party.old.seat.me party.new.seat.me }
@@ -193,7 +193,7 @@ impl<R: Drop, F: Yields, Q: Drop, M: Drop, A: Drop, B: Allocator + Copy> Share<R
         requires cell { IsOf self party.old }
         requires limit { (w : State) → P.attempt.ends party.old.seat.me.0.limit w ≡ P.attempt.ends (limit_in self) w }
         requires quiet { party.old.seat.me.0 ≡ having_seen None party.old.seat.me.0 }
-        requires allowed { MayTry (limit_in self) 3 party.old.seat.id party.old.seat.me P.attempt }
+        requires allowed { MayTry (limit_in self) 2 party.old.seat.id party.old.seat.me P.attempt }
         requires shares { MayGive (limit_in self) party.old.seat.id party.old.seat.me P.attempt }
         ensures cell { party.new.seat.block ≡ party.old.seat.block }
         ensures tried { HasTried (limit_in self) P.attempt result party.old.seat.me party.new.seat.me }
@@ -226,7 +226,7 @@ impl<R: Wait + Drop + Copy, F: Yields, Q: Drop, M: Drop, A: Drop, B: Allocator +
         requires limit { (w : State) → P.attempt.ends party.old.seat.me.0.limit w ≡ P.attempt.ends (limit_in self.now) w }
         requires room { HasRoom word }
         requires seen { (t : Option Tries) × Names word t × (party.old.seat.me.0 ≡ having_seen t party.old.seat.me.0) }
-        requires allowed { MayTry (limit_in self.now) 3 party.old.seat.id party.old.seat.me P.attempt }
+        requires allowed { MayTry (limit_in self.now) 2 party.old.seat.id party.old.seat.me P.attempt }
         requires shares { MayBring (limit_in self.now) party.old.seat.id party.old.seat.me P.attempt }
         ensures cell { party.new.seat.block ≡ party.old.seat.block }
         ensures changed { IfOk result (λ r. HasChanged (limit_in self.now) P.attempt r.0 party.old.seat.me party.new.seat.me) }
@@ -254,7 +254,7 @@ impl<R: Wait + Drop + Copy, F: Yields, Q: Drop, M: Drop, A: Drop, B: Allocator +
         requires limit { (w : State) → P.attempt.ends party.old.seat.me.0.limit w ≡ P.attempt.ends (limit_in self.now) w }
         requires room { HasRoom word }
         requires seen { (t : Option Tries) × Names word t × (party.old.seat.me.0 ≡ having_seen t party.old.seat.me.0) }
-        requires allowed { MayTry (limit_in self.now) 3 party.old.seat.id party.old.seat.me P.attempt }
+        requires allowed { MayTry (limit_in self.now) 2 party.old.seat.id party.old.seat.me P.attempt }
         requires shares { MayBring (limit_in self.now) party.old.seat.id party.old.seat.me P.attempt }
         ensures cell { party.new.seat.block ≡ party.old.seat.block }
         ensures changed { IfOk result (λ r. HasChanged (limit_in self.now) P.attempt r.0 party.old.seat.me party.new.seat.me) }
@@ -277,7 +277,7 @@ impl<R: Wait + Drop + Copy, F: Yields, Q: Drop, M: Drop, A: Drop, B: Allocator +
         requires cell { IsOf self.now party.old }
         requires limit { (w : State) → P.attempt.ends party.old.seat.me.0.limit w ≡ P.attempt.ends (limit_in self.now) w }
         requires quiet { party.old.seat.me.0 ≡ having_seen None party.old.seat.me.0 }
-        requires allowed { MayTry (limit_in self.now) 3 party.old.seat.id party.old.seat.me P.attempt }
+        requires allowed { MayTry (limit_in self.now) 2 party.old.seat.id party.old.seat.me P.attempt }
         requires shares { MayBring (limit_in self.now) party.old.seat.id party.old.seat.me P.attempt }
         ensures cell { party.new.seat.block ≡ party.old.seat.block }
         ensures changed { IfOk result (λ r. HasChanged (limit_in self.now) P.attempt r.0 party.old.seat.me party.new.seat.me) }
@@ -296,7 +296,7 @@ impl<R: Wait + Drop + Copy, F: Yields, Q: Drop, M: Drop, A: Drop, B: Allocator +
         requires cell { IsOf self.now party.old }
         requires limit { (w : State) → P.attempt.ends party.old.seat.me.0.limit w ≡ P.attempt.ends (limit_in self.now) w }
         requires quiet { party.old.seat.me.0 ≡ having_seen None party.old.seat.me.0 }
-        requires allowed { MayTry (limit_in self.now) 3 party.old.seat.id party.old.seat.me P.attempt }
+        requires allowed { MayTry (limit_in self.now) 2 party.old.seat.id party.old.seat.me P.attempt }
         requires shares { MayBring (limit_in self.now) party.old.seat.id party.old.seat.me P.attempt }
         requires none { (row : P.Row) → P.attempt.counts row ≡ false }
         ensures cell { party.new.seat.block ≡ party.old.seat.block }
@@ -324,7 +324,7 @@ impl<R: Wait + Drop + Copy, F: Yields, Q: Drop, M: Drop, A: Drop, B: Allocator +
         requires limit { (w : State) → P.attempt.ends party.old.seat.me.0.limit w ≡ P.attempt.ends (limit_in self) w }
         requires room { HasRoom word }
         requires seen { (t : Option Tries) × Names word t × (party.old.seat.me.0 ≡ having_seen t party.old.seat.me.0) }
-        requires allowed { MayTry (limit_in self) 3 party.old.seat.id party.old.seat.me P.attempt }
+        requires allowed { MayTry (limit_in self) 2 party.old.seat.id party.old.seat.me P.attempt }
         requires shares { MayGive (limit_in self) party.old.seat.id party.old.seat.me P.attempt }
         ensures cell { party.new.seat.block ≡ party.old.seat.block }
         ensures changed { IfOk result (λ r. HasChanged (limit_in self) P.attempt r.0 party.old.seat.me party.new.seat.me) }
@@ -358,7 +358,7 @@ impl<R: Wait + Drop + Copy, F: Yields, Q: Drop, M: Drop, A: Drop, B: Allocator +
         requires limit { (w : State) → P.attempt.ends party.old.seat.me.0.limit w ≡ P.attempt.ends (limit_in self) w }
         requires room { HasRoom word }
         requires seen { (t : Option Tries) × Names word t × (party.old.seat.me.0 ≡ having_seen t party.old.seat.me.0) }
-        requires allowed { MayTry (limit_in self) 3 party.old.seat.id party.old.seat.me P.attempt }
+        requires allowed { MayTry (limit_in self) 2 party.old.seat.id party.old.seat.me P.attempt }
         requires shares { MayGive (limit_in self) party.old.seat.id party.old.seat.me P.attempt }
         ensures cell { party.new.seat.block ≡ party.old.seat.block }
         ensures changed { IfOk result (λ r. HasChanged (limit_in self) P.attempt r.0 party.old.seat.me party.new.seat.me) }
@@ -386,7 +386,7 @@ impl<R: Wait + Drop + Copy, F: Yields, Q: Drop, M: Drop, A: Drop, B: Allocator +
         requires cell { IsOf self party.old }
         requires endless { (limit : _) (w : State) → P.attempt.ends limit w ≡ false }
         requires quiet { party.old.seat.me.0 ≡ having_seen None party.old.seat.me.0 }
-        requires allowed { MayTry (limit_in self) 3 party.old.seat.id party.old.seat.me P.attempt }
+        requires allowed { MayTry (limit_in self) 2 party.old.seat.id party.old.seat.me P.attempt }
         requires shares { MayGive (limit_in self) party.old.seat.id party.old.seat.me P.attempt }
         ensures cell { party.new.seat.block ≡ party.old.seat.block }
         ensures changed { HasChanged (limit_in self) P.attempt result.0 party.old.seat.me party.new.seat.me }

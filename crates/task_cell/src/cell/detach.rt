@@ -5,7 +5,7 @@ ghost use Rattle.task_core.specs.declared.acts.Act.TheVariants.{DropOutput};
 ghost use Rattle.task_steps.specs.declared.table.Deed.{Deed};
 ghost use Rattle.task_steps.specs.declared.table.Slot.{Slot};
 ghost use Rattle.task_steps.specs.declared.table.Slot.TheVariants.{Empty};
-ghost use Rattle.task_steps.specs.Steps.{saw_closed, output_first};
+ghost use Rattle.task_steps.specs.Steps.{saw_closed, work_first};
 ghost use Rattle.task_cell.specs.TaskPaths.{Detaches, GivesTaskUp, DetachPath, UnclaimedPath};
 ghost use Rattle.task_cell.specs.Handed.{HandedOver};
 ghost use Rattle.task_cell.specs.Calls.{Stands, StandsWith, Did, deeds, limit_of};
@@ -21,33 +21,34 @@ use task_core::word::TASK;
 use task_core::{Schedule, Wake, Yields};
 use task_steps::attempt::TriedOnce;
 use task_steps::common::DroppingOutput;
+use task_steps::places::Content;
 use task_steps::table::Kept;
 use task_steps::task::{Detached, Detaching, GivingTaskUp};
 
 impl<R: Drop, F: Yields, Q: Drop, M: Drop, A: Drop, B: Allocator + Copy> Share<R, F, Q, M, A, B> {
-    // Writes down that the output in hand was dropped, and gives the places back. One load.
+    // Writes down that the output in hand is dropped, and gives its place back. One load.
     fn note_output_dropped(&self, party: &mut Party<F, Kept<F>, A>)
         requires cell { IsOf self.now party.old }
-        requires party { StandsWith OutputCloser (output_first Empty []) party.old }
+        requires party { StandsWith OutputCloser (work_first Empty []) party.old }
         ensures { Did (act DropOutput ∷ []) Detacher party.old party.new }
     {
         self.load::<DroppingOutput>(party);
     }
 
-    /// Drops the output that nobody claimed, and then gives the Task up, by a single fetch. Whether the slots are to be emptied, and then the Task's share.
-    pub fn drop_unclaimed(
+    /// Takes the output out that nobody claimed, and then gives the Task up, by a single fetch. Whether the slots are to be emptied, then the Task's share, and the output, which is dropped last.
+    pub fn take_unclaimed(
         self,
         party: &mut Party<F, Kept<F>, A>,
-    ) -> (bool, MaybeShare<R, F, Q, M, A, B>)
+    ) -> (bool, MaybeShare<R, F, Q, M, A, B>, Content<F, Kept<F>>)
         requires cell { IsOf self party.old }
-        requires party { (z : Slot F _ A) × StandsWith OutputCloser (output_first z []) party.old × (saw_closed (deeds party.old) ≡ true) }
+        requires party { (z : Slot F _) × StandsWith OutputCloser (work_first z []) party.old × (saw_closed (deeds party.old) ≡ true) }
         ensures path { GivesTaskUp party.old party.new result.0 }
         ensures share { Leaves self result.1 result.0 }
     {
-        self.clear(party, 1);
+        let unclaimed = self.take(party);
         self.note_output_dropped(party);
         let (found, maybe) = self.give::<GivingTaskUp>(party, TASK);
-        (found.references() == 0, maybe)
+        (found.references() == 0, maybe, unclaimed)
     }
 
     /// The row of a detach, by at most 2^64 - 1 tries: what it found, and the Task's share, if it is left. The error is the share, where each try has missed.
@@ -99,17 +100,19 @@ impl<R: Wait + Drop + Copy, F: Yields, Q: Drop, M: Drop, A: Wake, B: Allocator +
     A,
     B,
 > {
-    // The rest of a detach that has dropped the output.
+    // The rest of a detach that has taken the output: it is dropped last, after all else of the task that goes.
     fn leave_unclaimed(self, party: &mut Party<F, Kept<F>, A>)
         requires cell { IsOf self party.old }
-        requires party { (z : Slot F _ A) × StandsWith OutputCloser (output_first z []) party.old × (saw_closed (deeds party.old) ≡ true) }
+        requires party { (z : Slot F _) × StandsWith OutputCloser (work_first z []) party.old × (saw_closed (deeds party.old) ≡ true) }
         ensures { (path : List Deed) × UnclaimedPath path × Did path as_ended party.old party.new }
     {
-        let (last, maybe) = self.drop_unclaimed(party);
+        let (last, maybe, unclaimed) = self.take_unclaimed(party);
         if last {
             maybe.share().empty_at_end(party);
+            unclaimed.discard();
         } else {
             maybe.none();
+            unclaimed.discard();
         }
     }
 

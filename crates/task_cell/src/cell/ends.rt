@@ -1,17 +1,17 @@
 //! The ends of a run whose poll has answered.
 ghost use Rattle.std.specs.Prelude.{◌≡◌, ◌<◌, ℕ, ◌∷◌, [], List, Bool, true, not, IfOk, IfErr, IfSome};
 ghost use Rattle.task_core.specs.Word.{HasRoom};
-ghost use Rattle.task_laws.specs.declared.positions.Position.TheVariants.{Polling, Ready, Pending, PendingFutureDropped, OutputInHand};
+ghost use Rattle.task_laws.specs.declared.positions.Position.TheVariants.{Polling, Pending, PendingFutureDropped, OutputInHand, ReadyFutureDropped};
 ghost use Rattle.task_laws.specs.declared.positions.NotifyingCall.TheVariants.{OfRun};
-ghost use Rattle.task_core.specs.declared.acts.Act.TheVariants.{AnswerReady, DropOutput, EndClosed};
+ghost use Rattle.task_core.specs.declared.acts.Act.TheVariants.{AnswerReady, DropFuture, DropOutput, EndClosed};
 ghost use Rattle.task_laws.specs.Table.{notifies};
 ghost use Rattle.task_steps.specs.declared.table.Slot.{Slot};
 ghost use Rattle.task_steps.specs.declared.table.Slot.TheVariants.{Empty, Output};
 ghost use Rattle.task_cell.specs.Calls.{StandsWith, Did, DidWith, limit_of};
 ghost use Rattle.task_steps.specs.Deeds.{row, act};
-ghost use Rattle.task_steps.specs.Rule.{IsFuture};
+ghost use Rattle.task_steps.specs.Rule.{IsFuture, TaskPlace};
 ghost use Rattle.task_steps.specs.RunScripts.{ends_run};
-ghost use Rattle.task_steps.specs.Steps.{future_first, output_first};
+ghost use Rattle.task_steps.specs.Steps.{work_first};
 ghost use Rattle.task_cell.specs.RunCalls.{Completes, AnswersPending, EndsPending, end_of};
 ghost use Rattle.task_cell.specs.Belongs.{IsOf, IsSame, Leaves, cell_of, limit_in};
 
@@ -29,11 +29,11 @@ use task_steps::run::{
 use task_steps::table::Kept;
 
 impl<R: Drop, F: Yields, Q: Drop, M: Drop, A: Drop, B: Allocator + Copy> Share<R, F, Q, M, A, B> {
-    /// Writes down that the poll has answered Ready: the word that was found. One load.
+    /// Writes down that the poll has answered Ready, and that the future is dropped next: the word that was found. One load.
     pub fn answer_ready(&self, party: &mut Party<F, Kept<F>, A>) -> Word
         requires cell { IsOf self.now party.old }
-        requires party { (held : List (ℕ × Slot F _ A)) × StandsWith Polling held party.old }
-        ensures { (held : List (ℕ × Slot F _ A)) → StandsWith Polling held party.old → DidWith (act AnswerReady ∷ []) Ready held party.old party.new }
+        requires party { (held : List (ℕ × TaskPlace F _ A)) × StandsWith Polling held party.old }
+        ensures { (held : List (ℕ × TaskPlace F _ A)) → StandsWith Polling held party.old → DidWith (act AnswerReady ∷ act DropFuture ∷ []) ReadyFutureDropped held party.old party.new }
     {
         self.load::<AnsweringReady>(party)
     }
@@ -41,40 +41,40 @@ impl<R: Drop, F: Yields, Q: Drop, M: Drop, A: Drop, B: Allocator + Copy> Share<R
     /// Writes down that the poll has answered Pending: the word that was found. Where it shows a closed task, the future is to be dropped. One load.
     pub fn answer_pending(&self, party: &mut Party<F, Kept<F>, A>) -> Word
         requires cell { IsOf self.now party.old }
-        requires party { (held : List (ℕ × Slot F _ A)) × StandsWith Polling held party.old }
+        requires party { (held : List (ℕ × TaskPlace F _ A)) × StandsWith Polling held party.old }
         ensures room { HasRoom result }
-        ensures path { (held : List (ℕ × Slot F _ A)) → StandsWith Polling held party.old → AnswersPending held party.old party.new result.closed }
+        ensures path { (held : List (ℕ × TaskPlace F _ A)) → StandsWith Polling held party.old → AnswersPending held party.old party.new result.closed }
     {
         self.load::<AnsweringPending>(party)
     }
 
-    /// Drops the output that nobody will claim. One load.
+    /// Takes the output out that nobody will claim, writes down that it is dropped, and drops it. One load.
     pub fn drop_output(&self, party: &mut Party<F, Kept<F>, A>)
         requires cell { IsOf self.now party.old }
-        requires party { (due : Bool) × (z : Slot F _ A) × StandsWith (OutputInHand due) (output_first z []) party.old }
-        ensures { (due : Bool) (z : Slot F _ A) → StandsWith (OutputInHand due) (output_first z []) party.old → Did (act DropOutput ∷ []) (notifies due OfRun) party.old party.new }
+        requires party { (due : Bool) × (z : Slot F _) × StandsWith (OutputInHand due) (work_first z []) party.old }
+        ensures { (due : Bool) (z : Slot F _) → StandsWith (OutputInHand due) (work_first z []) party.old → Did (act DropOutput ∷ []) (notifies due OfRun) party.old party.new }
     {
-        self.clear(party, 1);
+        let unclaimed = self.take(party);
         self.load::<DroppingOutput>(party);
+        unclaimed.discard();
     }
 
     /// Drops the future of a closed task, and ends its run then: a single fetch, never tried again. The word that was found.
     pub fn end_closed(&self, party: &mut Party<F, Kept<F>, A>) -> Word
         requires cell { IsOf self.now party.old }
-        requires party { (y : Slot F _ A) × StandsWith PendingFutureDropped (future_first y []) party.old }
+        requires party { (y : Slot F _) × StandsWith PendingFutureDropped (work_first y []) party.old }
         ensures { (result.closed ≡ true) × Did (row EndClosed result ∷ []) (notifies result.awaiter OfRun) party.old party.new }
     {
-        self.clear(party, 0);
+        self.take(party).discard();
         self.fetch_and::<EndingClosed>(party, !(SCHEDULED | RUNNING))
     }
 
-    // Puts the output in hand into its place, after the future was dropped. The seat turns, since only the place in front can be written. It is no step on the word.
+    // Puts the output in hand into the place of the future, which was dropped. It is no step on the word.
     fn lay_output(&self, party: &mut Party<F, Kept<F>, A>, output: Held<Kept<F>>)
         requires cell { IsOf self.now party.old }
-        requires party { StandsWith Ready (future_first Empty []) party.old }
-        ensures { DidWith [] Ready (output_first (Output output.value) []) party.old party.new }
+        requires party { StandsWith ReadyFutureDropped (work_first Empty []) party.old }
+        ensures { DidWith [] ReadyFutureDropped (work_first (Output output.value) []) party.old party.new }
     {
-        party.seat.turn();
         put_output(&self.block, &mut party.seat, output).discard();
     }
 
@@ -85,7 +85,7 @@ impl<R: Drop, F: Yields, Q: Drop, M: Drop, A: Drop, B: Allocator + Copy> Share<R
         output: Held<Kept<F>>,
     ) -> Option<Word>
         requires cell { IsOf self.now party.old }
-        requires party { StandsWith Ready (future_first Empty []) party.old }
+        requires party { StandsWith ReadyFutureDropped (work_first Empty []) party.old }
         ensures { IfSome result (λ found. Completes party.old party.new found) }
     {
         self.lay_output(party, output);
@@ -107,8 +107,8 @@ impl<R: Drop, F: Yields, Q: Drop, M: Drop, A: Drop, B: Allocator + Copy> Share<R
     ) -> Result<Result<(PendingEnd, MaybeShare<R, F, Q, M, A, B>), Self>, Self>
         requires cell { IsOf self party.old × (limit_of party.old ≡ limit_in self) }
         requires room { HasRoom word }
-        requires party { (y : Slot F _ A) × StandsWith Pending (future_first y []) party.old × IsFuture y }
-        ensures path { (y : Slot F _ A) → StandsWith Pending (future_first y []) party.old → IfOk result (λ tried. EndsPending (future_first y []) party.old party.new (end_of tried)) }
+        requires party { (y : Slot F _) × StandsWith Pending (work_first y []) party.old × IsFuture y }
+        ensures path { (y : Slot F _) → StandsWith Pending (work_first y []) party.old → IfOk result (λ tried. EndsPending (work_first y []) party.old party.new (end_of tried)) }
         ensures share { IfOk result (λ tried. IfOk tried (λ r. Leaves self r.1 (not (ends_run r.0)))) }
         ensures kept { IfOk result (λ tried. IfErr tried (λ share. IsSame self share)) }
     {
@@ -131,7 +131,7 @@ impl<R: Wait + Drop + Copy, F: Yields, Q: Drop, M: Drop, A: Drop, B: Allocator +
     // The end step of a run with its output, after its future was dropped.
     pub(crate) fn complete(&self, party: &mut Party<F, Kept<F>, A>, output: Held<Kept<F>>) -> Word
         requires cell { IsOf self.now party.old }
-        requires party { StandsWith Ready (future_first Empty []) party.old }
+        requires party { StandsWith ReadyFutureDropped (work_first Empty []) party.old }
         ensures { Completes party.old party.new result }
     {
         self.lay_output(party, output);
@@ -149,8 +149,8 @@ impl<R: Wait + Drop + Copy, F: Yields, Q: Drop, M: Drop, A: Drop, B: Allocator +
     ) -> Result<(PendingEnd, MaybeShare<R, F, Q, M, A, B>), Self>
         requires cell { IsOf self party.old × (limit_of party.old ≡ limit_in self) }
         requires room { HasRoom word }
-        requires party { (y : Slot F _ A) × StandsWith Pending (future_first y []) party.old × IsFuture y }
-        ensures path { (y : Slot F _ A) → StandsWith Pending (future_first y []) party.old → EndsPending (future_first y []) party.old party.new (end_of result) }
+        requires party { (y : Slot F _) × StandsWith Pending (work_first y []) party.old × IsFuture y }
+        ensures path { (y : Slot F _) → StandsWith Pending (work_first y []) party.old → EndsPending (work_first y []) party.old party.new (end_of result) }
         ensures share { IfOk result (λ r. Leaves self r.1 (not (ends_run r.0))) }
         ensures kept { IfErr result (λ share. cell_of share ≡ cell_of self) }
     {

@@ -1,11 +1,12 @@
 //! Gaining a reference for a new waker.
-ghost use Rattle.std.specs.Prelude.{◌≡◌, ◌<◌, List, [], ◌∷◌, IfSome, IfOk, IfErr, is_some, false};
+ghost use Rattle.std.specs.Prelude.{◌≡◌, ◌<◌, List, [], ◌∷◌, IfSome, IfOk, IfErr, false};
 ghost use Rattle.task_core.specs.Word.{HasRoom};
 ghost use Rattle.task_steps.specs.Rule.{view, fresh};
 ghost use Rattle.task_steps.specs.declared.table.Deed.{Deed};
 ghost use Rattle.task_cell.specs.Belongs.{HasMade, IsOf, cell_of, limit_in};
 ghost use Rattle.task_cell.specs.Calls.{Stands, limit_of, second};
 ghost use Rattle.task_steps.specs.Standing.{as_waker, as_lent};
+ghost use Rattle.task_cell.specs.Gained.{HasFoundLimit, HasGained};
 ghost use Rattle.task_cell.specs.WakerPaths.{Gains, GainPath};
 
 use super::{EndedCall, Party, Share};
@@ -48,20 +49,22 @@ impl<R: Wait + Drop + Copy, F: Yields, Q: Drop, M: Drop, A: Drop, B: Allocator +
         }
     }
 
-    // A gain by whoever has a handle by reference: a share for the new waker, and its party; and the record of the call.
+    // A gain by whoever has a handle by reference: a share for the new waker, and its party. The error is the record of the call, which has found the limit.
     pub(crate) fn gain_by_reference(
         &self,
-    ) -> (
-        Option<(Self, Party<F, Kept<F>, A>)>,
-        EndedCall<F, Kept<F>, A>,
-    )
-        ensures share { IfSome result.0 (λ gained. cell_of gained.0 ≡ cell_of self.now) }
-        ensures waker { IfSome result.0 (λ gained. IsOf self.now gained.1 × (gained.1.seat.me ≡ (view (limit_in self.now) (fresh as_waker ∷ []), []))) }
-        ensures path { (path : List Deed) × GainPath (limit_in self.now) (is_some result.0) path × HasMade self.now path result.1.party }
+    ) -> Result<(Self, Party<F, Kept<F>, A>), EndedCall<F, Kept<F>, A>>
+        ensures share { IfOk result (λ gained. cell_of gained.0 ≡ cell_of self.now) }
+        ensures waker { IfOk result (λ gained. IsOf self.now gained.1 × (gained.1.seat.me ≡ (view (limit_in self.now) (fresh as_waker ∷ []), []))) }
+        ensures gained { IfOk result (λ _. HasGained self.now) }
+        ensures refused { IfErr result (λ ended. HasFoundLimit self.now ended.party) }
     {
         let (word, mut party) = self.borrow();
         let gained = self.gain(&mut party, word);
-        (gained, party.give_back())
+        let ended = self.ledger().record(party);
+        match gained {
+            Some(waker) => Ok(waker),
+            None => Err(ended),
+        }
     }
 }
 

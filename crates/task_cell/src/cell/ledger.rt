@@ -7,7 +7,6 @@ ghost use Rattle.task_laws.specs.declared.positions.NotifyingCall.{NotifyingCall
 ghost use Rattle.task_laws.specs.declared.positions.Position.TheVariants.{AwaiterInHand, CallEnding};
 ghost use Rattle.task_laws.specs.declared.positions.Rest.{Rest};
 ghost use Rattle.task_laws.specs.Table.{after_waking, may_drop};
-ghost use Rattle.task_steps.specs.declared.table.Slot.{Slot};
 ghost use Rattle.task_steps.specs.Deeds.{act};
 ghost use Rattle.task_steps.specs.Held.{held};
 ghost use Rattle.task_steps.specs.Standing.{rest_of, way_of};
@@ -15,6 +14,7 @@ ghost use Rattle.task_steps.specs.Steps.{Makes};
 ghost use Rattle.task_cell.specs.Belongs.{IsBeside};
 ghost use Rattle.task_cell.specs.Calls.{Did, DidWith, MayNote, Stands, StandsWith, places_of, position};
 ghost use Rattle.task_cell.specs.RunCalls.{HasTaken, Wakes};
+ghost use Rattle.task_steps.specs.Rule.{TaskPlace};
 
 use super::{Cell, Party};
 use std::alloc::Allocator;
@@ -51,19 +51,19 @@ impl<R, F: Yields, Q, M, A, B: Allocator> Ledger<R, F, Q, M, A, B> {
         self.note::<Ending>(party);
     }
 
-    /// Writes down that the awaiter in hand was woken.
+    /// Writes down that the awaiter in hand is woken.
     pub fn note_woken(&self, party: &mut Party<F, Kept<F>, A>)
         requires cell { IsBeside self.now party.old }
-        requires party { (i : ℕ) × (way : NotifyingCall) × (held : List (ℕ × Slot F _ A)) × StandsWith (AwaiterInHand i way) held party.old }
+        requires party { (i : ℕ) × (way : NotifyingCall) × (held : List (ℕ × TaskPlace F _ A)) × StandsWith (AwaiterInHand i way) held party.old }
         ensures { DidWith (act WakeAwaiter ∷ []) (after_waking (way_of (position party.old))) (places_of party.old) party.old party.new }
     {
         self.note::<Waking>(party);
     }
 
-    // Writes down that the awaiter in hand was dropped.
+    // Writes down that the awaiter in hand is dropped.
     pub(crate) fn note_dropped(&self, party: &mut Party<F, Kept<F>, A>)
         requires cell { IsBeside self.now party.old }
-        requires party { (i : ℕ) × (way : NotifyingCall) × (held : List (ℕ × Slot F _ A)) × StandsWith (AwaiterInHand i way) held party.old × (may_drop way ≡ true) }
+        requires party { (i : ℕ) × (way : NotifyingCall) × (held : List (ℕ × TaskPlace F _ A)) × StandsWith (AwaiterInHand i way) held party.old × (may_drop way ≡ true) }
         ensures { DidWith (act DropAwaiter ∷ []) (after_waking (way_of (position party.old))) (places_of party.old) party.old party.new }
     {
         self.note::<Dropping>(party);
@@ -71,15 +71,15 @@ impl<R, F: Yields, Q, M, A, B: Allocator> Ledger<R, F, Q, M, A, B> {
 }
 
 impl<R, F: Yields, Q, M, A: Wake, B: Allocator> Ledger<R, F, Q, M, A, B> {
-    // Wakes the awaiter that was taken.
+    // Wakes the awaiter that was taken. The act stands in the list before the awaiter is called.
     pub(crate) fn wake_taken(&self, party: &mut Party<F, Kept<F>, A>, awaiter: Option<Held<A>>)
         requires cell { IsBeside self.now party.old }
         requires party { (way : NotifyingCall) × HasTaken way party.old (held awaiter) }
-        ensures { (way : NotifyingCall) → HasTaken way party.old (held awaiter) → Wakes ((a : A) × A.woken a) way (held awaiter) party.old party.new }
+        ensures { (way : NotifyingCall) → HasTaken way party.old (held awaiter) → Wakes ((a : A) × (r : A.Record) × A.woken a r) way (held awaiter) party.old party.new }
     {
         if let Some(awaiter) = awaiter {
-            awaiter.wake();
             self.note_woken(party);
+            awaiter.wake();
         }
     }
 }

@@ -4,8 +4,8 @@ ghost use Rattle.task_laws.specs.declared.positions.Position.TheVariants.{Pollin
 ghost use Rattle.task_core.specs.Poll.{IfReady};
 ghost use Rattle.task_steps.specs.declared.table.Slot.{Slot};
 ghost use Rattle.task_steps.specs.declared.table.Slot.TheVariants.{Future as Lies};
-ghost use Rattle.task_steps.specs.Rule.{IsFuture};
-ghost use Rattle.task_steps.specs.Steps.{future_first};
+ghost use Rattle.task_steps.specs.Rule.{IsFuture, TaskPlace};
+ghost use Rattle.task_steps.specs.Steps.{work_first};
 ghost use Rattle.task_cell.specs.Calls.{StandsWith, limit_of};
 ghost use Rattle.task_cell.specs.Handed.{LentTo};
 ghost use Rattle.task_cell.specs.RunCalls.{NotesAnswer};
@@ -39,9 +39,9 @@ impl<R: Wait + Drop + Copy, F: Yields, Q: Drop, M: Drop, A: Wake, B: Allocator +
         Q: Schedule<Runnable<R, F, Q, M, A, X, B>>,
         requires cell { IsOf self party }
         requires limit { limit_of party ≡ limit_in self }
-        requires party { (y : Slot F _ A) × StandsWith Polling (future_first y []) party × IsFuture y }
+        requires party { (y : Slot F _) × StandsWith Polling (work_first y []) party × IsFuture y }
         ensures share { result.0 ≡ self }
-        ensures once { (f : F) × (g : F) × StandsWith Polling (future_first (Lies f) []) party × NotesAnswer (future_first (Lies g) []) party result.1 result.3 result.2 × LentTo F.polled (cell_of self) around f result.2 g }
+        ensures once { (f : F) × (g : F) × StandsWith Polling (work_first (Lies f) []) party × NotesAnswer (work_first (Lies g) []) party result.1 result.3 result.2 × LentTo F.polled (cell_of self) around f result.2 g }
         ensures meets { IfReady result.2 F.Yields.meets }
     {
         let Party { mut seat } = party;
@@ -72,8 +72,8 @@ impl<R: Wait + Drop + Copy, F: Yields, Q: Drop, M: Drop, A: Wake, B: Allocator +
         answer: &Poll<F::Output>,
     ) -> (Party<F, Kept<F>, A>, Word)
         requires cell { IsOf self.now party }
-        requires party { (held : List (ℕ × Slot F _ A)) × StandsWith Polling held party }
-        ensures { (held : List (ℕ × Slot F _ A)) → StandsWith Polling held party → NotesAnswer held party result.0 result.1 answer.now }
+        requires party { (held : List (ℕ × TaskPlace F _ A)) × StandsWith Polling held party }
+        ensures { (held : List (ℕ × TaskPlace F _ A)) → StandsWith Polling held party → NotesAnswer held party result.0 result.1 answer.now }
     {
         match answer {
             Poll::Ready(_) => {

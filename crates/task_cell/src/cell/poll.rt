@@ -14,6 +14,7 @@ ghost use Rattle.task_cell.specs.Calls.{Stands, Did, position, deeds};
 ghost use Rattle.task_steps.specs.Deeds.{act};
 ghost use Rattle.task_cell.specs.Belongs.{IsOf};
 
+use super::lent_awaiter::{LentAwaiter, OneWake};
 use super::{Party, Share};
 use std::alloc::Allocator;
 use std::sync::Wait;
@@ -89,20 +90,24 @@ impl<R: Wait + Drop + Copy, F: Yields, Q: Drop, M: Drop, A: Wake, B: Allocator +
     B,
 > {
     // Answers ready without output: takes the stored awaiter, and ends the poll.
-    fn answer_closed(&self, party: &mut Party<F, Kept<F>, A>, awaiter: &A)
+    fn answer_closed(&self, party: &mut Party<F, Kept<F>, A>, awaiter: &LentAwaiter<'_, A>)
         requires cell { IsOf self.now party.old }
         requires party { (i : ℕ) × Stands (Notifier (OfPoll i)) party.old }
-        ensures { (taken : List Deed) × TakePath A.woken A.compared awaiter.now taken × Did (taken ++ (act EndCall ∷ [])) (as_task (poll_number (position party.old))) party.old party.new }
+        ensures { (taken : List Deed) × TakePath A.woken A.compared awaiter.now.awaiter.now taken × Did (taken ++ (act EndCall ∷ [])) (as_task (poll_number (position party.old))) party.old party.new }
     {
         self.take_awaiter(party, awaiter);
         self.end_poll(party);
     }
 
     // Looks again, after the awaiter was registered, and answers by what it finds.
-    fn answer(&self, party: &mut Party<F, Kept<F>, A>, awaiter: &A) -> TaskPoll<Option<Kept<F>>>
+    fn answer(
+        &self,
+        party: &mut Party<F, Kept<F>, A>,
+        awaiter: &LentAwaiter<'_, A>,
+    ) -> TaskPoll<Option<Kept<F>>>
         requires cell { IsOf self.now party.old }
         requires party { (i : ℕ) × Stands (LookingAt i) party.old }
-        ensures { (path : List Deed) × AnswerPath A.woken A.compared awaiter.now path result × Did path (as_task (poll_number (position party.old))) party.old party.new }
+        ensures { (path : List Deed) × AnswerPath A.woken A.compared awaiter.now.awaiter.now path result × Did path (as_task (poll_number (position party.old))) party.old party.new }
     {
         match self.look_again(party) {
             Ok(found) => {
@@ -119,6 +124,38 @@ impl<R: Wait + Drop + Copy, F: Yields, Q: Drop, M: Drop, A: Wake, B: Allocator +
         }
     }
 
+    // A poll, of the awaiter as its parts have it.
+    fn poll_lent(
+        &self,
+        party: &mut Party<F, Kept<F>, A>,
+        awaiter: &LentAwaiter<'_, A>,
+        once: OneWake,
+    ) -> TaskPoll<Option<Kept<F>>>
+        requires cell { IsOf self.now party.old }
+        requires party { (n : ℕ) × Stands (as_task n) party.old }
+        ensures path { (path : List Deed) × PollPath A.cloned A.woken A.woken_by_ref A.compared awaiter.now.awaiter.now path result × Did path (as_task (poll_number (position party.old))) party.old party.new }
+        ensures ended { saw_ended (deeds party.old) ≡ true → result ≡ TaskPoll.Ready None }
+        ensures closed { result ≡ TaskPoll.Ready None → saw_ended (deeds party.new) ≡ true }
+    {
+        let found = match self.look(party) {
+            Ok(found) => {
+                once.give_up();
+                let output = self.take_output(party, awaiter, found);
+                return TaskPoll::Ready(Some(output.hand_out()));
+            }
+            Err(found) => found,
+        };
+        if has_ended(found) {
+            once.give_up();
+            self.answer_closed(party, awaiter);
+            return TaskPoll::Ready(None);
+        }
+        if !self.register(party, awaiter, once) {
+            return TaskPoll::Refused;
+        }
+        self.answer(party, awaiter)
+    }
+
     /// Answers with the output, once there is one, or without one, where the task was closed and its future is gone.
     ///
     /// Where there is no answer yet, a clone of the awaiter is registered in the place of the one before, and is woken once there is one.
@@ -132,20 +169,7 @@ impl<R: Wait + Drop + Copy, F: Yields, Q: Drop, M: Drop, A: Wake, B: Allocator +
         ensures ended { saw_ended (deeds party.old) ≡ true → result ≡ TaskPoll.Ready None }
         ensures closed { result ≡ TaskPoll.Ready None → saw_ended (deeds party.new) ≡ true }
     {
-        let found = match self.look(party) {
-            Ok(found) => {
-                let output = self.take_output(party, awaiter, found);
-                return TaskPoll::Ready(Some(output.hand_out()));
-            }
-            Err(found) => found,
-        };
-        if has_ended(found) {
-            self.answer_closed(party, awaiter);
-            return TaskPoll::Ready(None);
-        }
-        if !self.register(party, awaiter) {
-            return TaskPoll::Refused;
-        }
-        self.answer(party, awaiter)
+        let (lent, once) = LentAwaiter::new(awaiter);
+        self.poll_lent(party, &lent, once)
     }
 }

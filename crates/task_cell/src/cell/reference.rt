@@ -14,6 +14,8 @@ ghost use Rattle.task_cell.specs.Calls.{Stands, StandsWith, Did, DidWith};
 ghost use Rattle.task_steps.specs.Deeds.{act};
 ghost use Rattle.task_cell.specs.RunCalls.{GivesUp, Releases, Rests};
 ghost use Rattle.task_cell.specs.Belongs.{IsBeside, IsOf, Leaves};
+ghost use Rattle.task_steps.specs.Rule.{TaskPlace};
+ghost use Rattle.task_steps.specs.Steps.{work_first, awaiter_first};
 
 use super::ledger::Ledger;
 use super::{MaybeShare, Party, Share};
@@ -21,20 +23,30 @@ use std::alloc::Allocator;
 use std::sync::Wait;
 use task_core::word::REFERENCE;
 use task_core::{Wake, Yields};
-use task_steps::places::take_out;
+use task_steps::places::{Content, take_awaiter, take_work};
 use task_steps::run::{Emptying, GivingReferenceUp};
 use task_steps::table::Kept;
 use task_steps::waker::is_last;
 
 impl<R: Drop, F: Yields, Q: Drop, M: Drop, A: Drop, B: Allocator + Copy> Share<R, F, Q, M, A, B> {
-    /// Drops what is in the place of the table that the party has in front, and leaves nothing there.
-    pub fn clear(&self, party: &mut Party<F, Kept<F>, A>, place: usize)
-        requires place { place < 3 }
+    /// Takes out what is in the place of the future and the output, which the party has in front, and leaves nothing there.
+    pub fn take(&self, party: &mut Party<F, Kept<F>, A>) -> Content<F, Kept<F>>
         requires cell { IsOf self.now party.old }
-        requires party { (at : Position) × (y : Slot F _ A) × (held : List (ℕ × Slot F _ A)) × StandsWith at ((place, y) ∷ held) party.old }
-        ensures { (at : Position) (y : Slot F _ A) (held : List (ℕ × Slot F _ A)) → StandsWith at ((place, y) ∷ held) party.old → DidWith [] at ((place, Empty) ∷ held) party.old party.new }
+        requires party { (at : Position) × (y : Slot F _) × (held : List (ℕ × TaskPlace F _ A)) × StandsWith at (work_first y held) party.old }
+        ensures { (at : Position) (y : Slot F _) (held : List (ℕ × TaskPlace F _ A)) → StandsWith at (work_first y held) party.old → DidWith [] at (work_first Empty held) party.old party.new }
     {
-        take_out(&self.block, &mut party.seat, place).discard();
+        take_work(&self.block, &mut party.seat)
+    }
+
+    /// Drops the awaiter in its place, which the party has in front, if one is there, and leaves none.
+    pub fn clear_awaiter(&self, party: &mut Party<F, Kept<F>, A>)
+        requires cell { IsOf self.now party.old }
+        requires party { (at : Position) × (y : Option A) × (held : List (ℕ × TaskPlace F _ A)) × StandsWith at (awaiter_first y held) party.old }
+        ensures { (at : Position) (y : Option A) (held : List (ℕ × TaskPlace F _ A)) → StandsWith at (awaiter_first y held) party.old → DidWith [] at (awaiter_first None held) party.old party.new }
+    {
+        if let Some(awaiter) = take_awaiter(&self.block, &mut party.seat) {
+            awaiter.discard();
+        }
     }
 
     /// Gives the reference up: a single fetch, never tried again. Whether it was the last handle, and then its share.
@@ -51,11 +63,11 @@ impl<R: Drop, F: Yields, Q: Drop, M: Drop, A: Drop, B: Allocator + Copy> Share<R
     /// Empties the place of the awaiter, as the last party, and gives it back by a load. Then its share ends, and the cell with it, unless a schedule call holds it: whether it has. The party goes on in its call: to the awaiter in hand, or to the end.
     pub fn empty(self, party: &mut Party<F, Kept<F>, A>) -> (Ledger<R, F, Q, M, A, B>, bool)
         requires cell { IsOf self party.old }
-        requires party { (hand : Option ℕ) × (answer : Answer) × (y : Slot F _ A) × StandsWith (Emptier hand answer) ((2, y) ∷ []) party.old }
-        ensures path { (hand : Option ℕ) (answer : Answer) (y : Slot F _ A) → StandsWith (Emptier hand answer) ((2, y) ∷ []) party.old → Did (act EmptySlots ∷ []) (after_giving_up hand answer) party.old party.new }
+        requires party { (hand : Option ℕ) × (answer : Answer) × (y : Option A) × StandsWith (Emptier hand answer) (awaiter_first y []) party.old }
+        ensures path { (hand : Option ℕ) (answer : Answer) (y : Option A) → StandsWith (Emptier hand answer) (awaiter_first y []) party.old → Did (act EmptySlots ∷ []) (after_giving_up hand answer) party.old party.new }
         ensures ledger { IsBeside result.0 party.new }
     {
-        self.clear(party, 2);
+        self.clear_awaiter(party);
         self.load::<Emptying>(party);
         let ledger = self.ledger();
         let word = self.close(party);
@@ -65,7 +77,7 @@ impl<R: Drop, F: Yields, Q: Drop, M: Drop, A: Drop, B: Allocator + Copy> Share<R
     // The last handle empties the places, and its call ends.
     pub(crate) fn empty_at_end(self, party: &mut Party<F, Kept<F>, A>)
         requires cell { IsOf self party.old }
-        requires party { (y : Slot F _ A) × StandsWith (Emptier None Nothing) ((2, y) ∷ []) party.old }
+        requires party { (y : Option A) × StandsWith (Emptier None Nothing) (awaiter_first y []) party.old }
         ensures { Did (act EmptySlots ∷ act EndCall ∷ []) as_ended party.old party.new }
     {
         let (ledger, _) = self.empty(party);
@@ -100,7 +112,7 @@ impl<R: Wait + Drop + Copy, F: Yields, Q: Drop, M: Drop, A: Wake, B: Allocator +
     pub(crate) fn finish(self, party: &mut Party<F, Kept<F>, A>, due: bool)
         requires cell { IsOf self party.old }
         requires party { Stands (notifies due OfRun) party.old }
-        ensures { Rests ((a : A) × A.woken a) due party.old party.new }
+        ensures { Rests ((a : A) × (r : A.Record) × A.woken a r) due party.old party.new }
     {
         let awaiter = self.take_due(party, due);
         let ledger = self.release(party);

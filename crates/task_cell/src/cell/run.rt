@@ -3,7 +3,7 @@ ghost use Rattle.std.specs.Prelude.{◌≡◌, ◌<◌, ℕ, ◌∷◌, []};
 ghost use Rattle.task_core.specs.Word.{HasRoom};
 ghost use Rattle.task_laws.specs.declared.positions.WithoutPoll.TheVariants.{ClosedRun};
 ghost use Rattle.task_laws.specs.declared.positions.WithoutPoll.{WithoutPoll};
-ghost use Rattle.task_laws.specs.declared.positions.Position.TheVariants.{FutureInHand, Ready, PendingFutureDropped};
+ghost use Rattle.task_laws.specs.declared.positions.Position.TheVariants.{FutureGone, ReadyFutureDropped, PendingFutureDropped};
 ghost use Rattle.task_core.specs.declared.acts.Act.TheVariants.{AnswerReady, DropFuture, Unschedule};
 ghost use Rattle.task_laws.specs.Table.{notifies};
 ghost use Rattle.task_steps.specs.declared.table.Slot.{Slot};
@@ -13,7 +13,7 @@ ghost use Rattle.task_cell.specs.Calls.{StandsWith, Did, DidWith, position, limi
 ghost use Rattle.task_steps.specs.Deeds.{row, act};
 ghost use Rattle.task_steps.specs.Standing.{closing_way};
 ghost use Rattle.task_steps.specs.Rule.{IsFuture};
-ghost use Rattle.task_steps.specs.Steps.{future_first};
+ghost use Rattle.task_steps.specs.Steps.{work_first};
 ghost use Rattle.task_cell.specs.RunCalls.{Stores, AnswersPending, ClosesPending, Closes, EndsReady, EndsUnready};
 ghost use Rattle.task_cell.specs.Belongs.{IsOf, cell_of, limit_in};
 
@@ -27,11 +27,11 @@ use task_steps::run::{PendingEnd, Unscheduling, keeps_output};
 use task_steps::table::Kept;
 
 impl<R: Drop, F: Yields, Q: Drop, M: Drop, A: Drop, B: Allocator + Copy> Share<R, F, Q, M, A, B> {
-    /// Clears SCHEDULED, after the future was dropped: a single fetch, never tried again. The word that was found.
+    /// Clears SCHEDULED, of a task whose future was dropped: a single fetch, never tried again. The word that was found.
     pub fn unschedule(&self, party: &mut Party<F, Kept<F>, A>) -> Word
         requires cell { IsOf self.now party.old }
-        requires party { (closer : WithoutPoll) × StandsWith (FutureInHand closer) (future_first Empty []) party.old }
-        ensures { Did (act DropFuture ∷ row Unschedule result ∷ []) (notifies result.awaiter (closing_way (position party.old))) party.old party.new }
+        requires party { (closer : WithoutPoll) × StandsWith (FutureGone closer) (work_first Empty []) party.old }
+        ensures { Did (row Unschedule result ∷ []) (notifies result.awaiter (closing_way (position party.old))) party.old party.new }
     {
         self.fetch_and::<Unscheduling>(party, !SCHEDULED)
     }
@@ -52,7 +52,7 @@ impl<R: Wait + Drop + Copy, F: Yields, Q: Drop, M: Drop, A: Drop, B: Allocator +
         output: Held<Kept<F>>,
     ) -> Word
         requires cell { IsOf self.now party.old }
-        requires party { StandsWith Ready (future_first Empty []) party.old }
+        requires party { StandsWith ReadyFutureDropped (work_first Empty []) party.old }
         ensures { Stores result party.old party.new }
     {
         let found = self.complete(party, output);
@@ -72,13 +72,13 @@ impl<R: Wait + Drop + Copy, F: Yields, Q: Drop, M: Drop, A: Wake, B: Allocator +
     A,
     B,
 > {
-    // A run of a task that was closed before, from where it has taken the future over.
+    // A run of a task that was closed before, from where it has taken the future over, and has written down that it drops it.
     pub(crate) fn close_run(self, party: &mut Party<F, Kept<F>, A>)
         requires cell { IsOf self party.old }
-        requires party { (y : Slot F _ A) × StandsWith (FutureInHand ClosedRun) (future_first y []) party.old }
-        ensures { Closes ((a : A) × A.woken a) party.old party.new }
+        requires party { (y : Slot F _) × StandsWith (FutureGone ClosedRun) (work_first y []) party.old }
+        ensures { Closes ((a : A) × (r : A.Record) × A.woken a r) party.old party.new }
     {
-        self.clear(party, 0);
+        self.take(party).discard();
         let found = self.unschedule(party);
         self.finish(party, found.awaiter());
     }
@@ -86,8 +86,8 @@ impl<R: Wait + Drop + Copy, F: Yields, Q: Drop, M: Drop, A: Wake, B: Allocator +
     // A run of a task that was closed meanwhile, from where its poll answered Pending.
     pub(crate) fn finish_cleared(self, party: &mut Party<F, Kept<F>, A>)
         requires cell { IsOf self party.old }
-        requires party { (y : Slot F _ A) × StandsWith PendingFutureDropped (future_first y []) party.old }
-        ensures { ClosesPending ((a : A) × A.woken a) party.old party.new }
+        requires party { (y : Slot F _) × StandsWith PendingFutureDropped (work_first y []) party.old }
+        ensures { ClosesPending ((a : A) × (r : A.Record) × A.woken a r) party.old party.new }
     {
         let found = self.end_closed(party);
         self.finish(party, found.awaiter());
@@ -105,10 +105,10 @@ impl<R: Wait + Drop + Copy, F: Yields, Q: Drop, M: Drop, A: Wake, B: Allocator +
     // A run, from where its poll has answered Ready, as the party that polled.
     pub(crate) fn finish_ready(self, party: &mut Party<F, Kept<F>, A>, output: Held<Kept<F>>)
         requires cell { IsOf self party.old }
-        requires party { (y : Slot F _ A) × StandsWith Ready (future_first y []) party.old }
-        ensures { (p : _) (y : Slot F _ A) → DidWith (act AnswerReady ∷ []) Ready (future_first y []) p party.old → EndsReady ((a : A) × A.woken a) p party.new }
+        requires party { (y : Slot F _) × StandsWith ReadyFutureDropped (work_first y []) party.old }
+        ensures { (p : _) (y : Slot F _) → DidWith (act AnswerReady ∷ act DropFuture ∷ []) ReadyFutureDropped (work_first y []) p party.old → EndsReady ((a : A) × (r : A.Record) × A.woken a r) p party.new }
     {
-        self.clear(party, 0);
+        self.take(party).discard();
         let found = self.store_output(party, output);
         self.finish(party, found.awaiter());
     }
@@ -124,8 +124,8 @@ impl<R: Wait + Drop + Copy, F: Yields, Q: Drop, M: Drop, A: Wake, B: Allocator +
         Q: Schedule<Runnable<R, F, Q, M, A, X, B>>,
         requires cell { IsOf self party.old × (limit_of party.old ≡ limit_in self) }
         requires room { HasRoom found }
-        requires party { (p : _) × (y : Slot F _ A) × AnswersPending (future_first y []) p party.old found.closed × IsFuture y }
-        ensures { (p : _) (y : Slot F _ A) → AnswersPending (future_first y []) p party.old found.closed → EndsUnready ((a : A) × A.woken a) (HandedOver Q.scheduled (cell_of self) around) result p party.new }
+        requires party { (p : _) × (y : Slot F _) × AnswersPending (work_first y []) p party.old found.closed × IsFuture y }
+        ensures { (p : _) (y : Slot F _) → AnswersPending (work_first y []) p party.old found.closed → EndsUnready ((a : A) × (r : A.Record) × A.woken a r) (HandedOver Q.scheduled (cell_of self) around) result p party.new }
     {
         if found.closed() {
             self.finish_cleared(party);

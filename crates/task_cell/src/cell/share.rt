@@ -1,16 +1,19 @@
 //! What a share of a cell shows, and how the last one ends.
-ghost use Rattle.std.specs.Prelude.{◌≡◌, [], true, false};
-ghost use Rattle.task_cell.specs.Belongs.{IsOf, Leaves, limit_in};
-ghost use Rattle.task_cell.specs.LastWord.{LastWordIf};
+ghost use Rattle.std.specs.Prelude.{◌≡◌, [], true, false, None, IfSome};
+ghost use Rattle.task_cell.specs.Belongs.{IsOf, Leaves};
 ghost use Rattle.task_cell.specs.Calls.{StandsWith, deeds};
+ghost use Rattle.task_cell.specs.Witnessed.{LastWordIf, Witnesses};
+ghost use Rattle.task_core.specs.Word.{state_of};
 ghost use Rattle.task_laws.specs.declared.positions.Position.{Position};
+ghost use Rattle.task_steps.specs.Rule.{IsEmpty, Waits};
 ghost use Rattle.task_steps.specs.Shares.{has_emptied};
 
 use super::ledger::Ledger;
 use super::{Cell, MaybeShare, Party, Share};
+use counted_block::Inner;
 use std::alloc::Allocator;
 use task_core::Yields;
-use task_steps::table::Kept;
+use task_steps::table::{Kept, Slot};
 
 impl<R, F: Yields, Q, M, A, B: Allocator + Copy> Share<R, F, Q, M, A, B> {
     /// What all handles of the task see.
@@ -63,18 +66,33 @@ impl<R, F: Yields, Q, M, A, B: Allocator + Copy> Share<R, F, Q, M, A, B> {
 }
 
 impl<R: Drop, F: Yields, Q: Drop, M: Drop, A: Drop, B: Allocator + Copy> Share<R, F, Q, M, A, B> {
+    // Ends the last share, of a party that has emptied the places: the block, unless a schedule call holds it, which has it then. Neither future nor output nor awaiter is in it.
+    fn end_block(
+        self,
+        party: &mut Party<F, Kept<F>, A>,
+    ) -> Option<Inner<Slot<F, Kept<F>>, Option<A>, Cell<R, Q, M, B>>>
+        requires cell { IsOf self party.old }
+        requires party { (at : Position) × StandsWith at [] party.old }
+        requires last { has_emptied (deeds party.old) ≡ true }
+        ensures party { (party.new.seat.block ≡ party.old.seat.block) × (party.new.seat.me ≡ party.old.seat.me) }
+        ensures word { IfSome result (λ inner. Witnesses party.old (state_of inner.word)) }
+        ensures empty { IfSome result (λ inner. IsEmpty inner.first × Waits None inner.second) }
+    {
+        let alloc = self.cell().alloc;
+        let Share { block } = self;
+        let whole = block.close(&mut party.seat)?.into_box(alloc);
+        Some(Box::into_inner(whole))
+    }
+
     // Ends the last share, of a party that has emptied the places. The cell ends too, unless a schedule call holds it. The last word, and what it means.
     pub(crate) fn close(self, party: &mut Party<F, Kept<F>, A>) -> Option<u64>
         requires cell { IsOf self party.old }
         requires party { (at : Position) × StandsWith at [] party.old }
         requires last { has_emptied (deeds party.old) ≡ true }
         ensures party { (party.new.seat.block ≡ party.old.seat.block) × (party.new.seat.me ≡ party.old.seat.me) }
-        ensures word { LastWordIf (limit_in self) result party.old }
+        ensures word { LastWordIf result party.old }
     {
-        let alloc = self.cell().alloc;
-        let Share { block } = self;
-        let whole = block.close(&mut party.seat)?.into_box(alloc);
-        let inner = Box::into_inner(whole);
+        let inner = self.end_block(party)?;
         let word = inner.word;
         drop(inner);
         Some(word)

@@ -21,7 +21,7 @@ impl<R: Wait + Drop + Copy, F: Yields, Q: Drop, M: Drop, A: Drop, B: Allocator +
     A,
     B,
 > {
-    // Takes the future for a run: true where the run has started, false where the task was closed.
+    // Takes the future for a run: true where the run has started, false where the task was closed, and the future is dropped next.
     pub(crate) fn take_up(&self, party: &mut Party<F, Kept<F>, A>) -> bool
         requires cell { IsOf self.now party.old }
         requires party { Stands as_runnable party.old }
@@ -35,7 +35,7 @@ impl<R: Wait + Drop + Copy, F: Yields, Q: Drop, M: Drop, A: Drop, B: Allocator +
 }
 
 impl<R: Drop, F: Yields, Q: Drop, M: Drop, A: Drop, B: Allocator + Copy> Share<R, F, Q, M, A, B> {
-    /// Takes the future for a run, by at most 2^64 - 1 tries: true where the run has started, false where the task was closed, none where each try has missed.
+    /// Takes the future for a run, by at most 2^64 - 1 tries: true where the run has started, false where the task was closed, and the future is dropped next; none where each try has missed.
     pub fn take_up_some(&self, party: &mut Party<F, Kept<F>, A>) -> Option<bool>
         requires cell { IsOf self.now party.old }
         requires party { Stands as_runnable party.old }

@@ -1,12 +1,13 @@
 //! Wakers, as the cell hands them out.
-ghost use Rattle.std.specs.Prelude.{◌≡◌, ℕ, [], ◌∷◌, IfSome, IfOk, IfErr};
+ghost use Rattle.std.specs.Prelude.{◌≡◌, ℕ, [], ◌∷◌, IfOk, IfErr, true, false};
 ghost use Rattle.task_steps.specs.Rule.{view, fresh};
-ghost use Rattle.task_cell.specs.Calls.{Stands, limit_of};
+ghost use Rattle.task_cell.specs.Calls.{Stands, deeds, limit_of};
 ghost use Rattle.task_steps.specs.Standing.{as_waker};
-ghost use Rattle.task_cell.specs.Wakers.{block_of, me_of, waker_me};
+ghost use Rattle.task_cell.specs.Gained.{HasFoundLimit, HasGained};
+ghost use Rattle.task_cell.specs.Wakers.{block_of, is_owned, me_of, waker_me};
 ghost use Rattle.task_cell.specs.Belongs.{IsOf, cell_of, limit_in};
 
-use super::{Party, Runnable, Share};
+use super::{EndedCall, Party, Runnable, Share};
 use std::alloc::{Allocator, Global};
 use std::sync::Wait;
 use task_core::{Schedule, Wake, Yields};
@@ -36,7 +37,8 @@ impl<R, F: Yields, Q, M, A, B: Allocator + Copy> WakerSeat<R, F, Q, M, A, B> {
     ) -> WakerSeat<R, F, Q, M, A, B>
         requires cell { IsOf share party }
         requires party { party.seat.me ≡ (view (limit_in share) (fresh as_waker ∷ []), []) }
-        ensures { result.share ≡ share }
+        ensures share { result.share ≡ share }
+        ensures owned { is_owned result.hold ≡ true }
     {
         WakerSeat {
             share,
@@ -76,8 +78,9 @@ impl<R, F: Yields, Q, M, A, B: Allocator + Copy> WakerSeat<R, F, Q, M, A, B> {
     ) -> Result<(Share<R, F, Q, M, A, B>, Party<F, Kept<F>, A>), WakerSeat<R, F, Q, M, A, B>>
         ensures share { IfOk result (λ owned. owned.0 ≡ self.share) }
         ensures cell { IfOk result (λ owned. IsOf owned.0 owned.1 × (limit_of owned.1 ≡ limit_in owned.0)) }
-        ensures party { IfOk result (λ owned. Stands as_waker owned.1) }
+        ensures party { IfOk result (λ owned. Stands as_waker owned.1 × (deeds owned.1 ≡ [])) }
         ensures lent { IfErr result (λ lent. (lent.share ≡ self.share) × (lent.hold ≡ Hold.Lent)) }
+        ensures was_lent { IfErr result (λ _. is_owned self.hold ≡ false) }
     {
         let WakerSeat { share, hold } = self;
         match hold {
@@ -98,12 +101,15 @@ impl<R: Wait + Drop + Copy, F: Yields, Q: Drop, M: Drop, A: Wake, B: Allocator +
     A,
     B,
 > {
-    // One more waker, which is owned.
-    pub(crate) fn gain(&self) -> Option<WakerSeat<R, F, Q, M, A, B>>
-        ensures { IfSome result (λ gained. cell_of gained.share ≡ cell_of self.now.share) }
+    // One more waker, which is owned. The error is the record of the call, which has found the limit.
+    pub(crate) fn gain(&self) -> Result<WakerSeat<R, F, Q, M, A, B>, EndedCall<F, Kept<F>, A>>
+        ensures cell { IfOk result (λ gained. cell_of gained.share ≡ cell_of self.now.share) }
+        ensures owned { IfOk result (λ gained. is_owned gained.hold ≡ true) }
+        ensures gained { IfOk result (λ _. HasGained self.now.share) }
+        ensures refused { IfErr result (λ ended. HasFoundLimit self.now.share ended.party) }
     {
-        let (share, party) = self.share.gain_by_reference().0?;
-        Some(WakerSeat::owned(share, party))
+        let (share, party) = self.share.gain_by_reference()?;
+        Ok(WakerSeat::owned(share, party))
     }
 }
 
@@ -133,15 +139,7 @@ where
     Q: Schedule<Runnable<R, F, Q, M, A, X, B>>,
 {
     fn drop(self) {
-        let (inner, around) = self.into_parts();
-        match inner.into_owned() {
-            Ok((share, mut party)) => {
-                share.drop_waker(&mut party, around);
-                party.let_go();
-            }
-            // A lent waker is taken apart when its poll has answered, and never dropped.
-            Err(lent) => lent.into_share().leak(),
-        }
+        self.discard();
     }
 }
 

@@ -1,15 +1,15 @@
 //! A whole run.
 ghost use Rattle.std.specs.Prelude.{◌≡◌, ◌<◌, ℕ, ◌∷◌, [], List};
 ghost use Rattle.task_core.specs.Word.{HasRoom};
-ghost use Rattle.task_laws.specs.declared.positions.Position.TheVariants.{FutureInHand, Ready};
+ghost use Rattle.task_laws.specs.declared.positions.Position.TheVariants.{FutureGone, ReadyFutureDropped};
 ghost use Rattle.task_laws.specs.declared.positions.WithoutPoll.TheVariants.{ClosedRun};
 ghost use Rattle.task_steps.specs.declared.table.Deed.{Deed};
 ghost use Rattle.task_steps.specs.declared.table.Slot.{Slot};
 ghost use Rattle.task_steps.specs.Rule.{IsFuture};
-ghost use Rattle.task_steps.specs.Steps.{future_first};
+ghost use Rattle.task_steps.specs.Steps.{work_first};
 ghost use Rattle.task_cell.specs.Handed.{HandedOver, PolledOnce};
 ghost use Rattle.task_cell.specs.Calls.{Stands, StandsWith, Did, DidWith, limit_of};
-ghost use Rattle.task_core.specs.declared.acts.Act.TheVariants.{AnswerReady};
+ghost use Rattle.task_core.specs.declared.acts.Act.TheVariants.{AnswerReady, DropFuture};
 ghost use Rattle.task_steps.specs.Deeds.{act};
 ghost use Rattle.task_steps.specs.Standing.{as_runnable, as_ended};
 ghost use Rattle.task_cell.specs.Starts.{TakesUp};
@@ -46,7 +46,7 @@ impl<R: Wait + Drop + Copy, F: Yields, Q: Drop, M: Drop, A: Wake, B: Allocator +
         Q: Schedule<Runnable<R, F, Q, M, A, X, B>>,
         requires cell { IsOf self party × (limit_of party ≡ limit_in self) }
         requires party { Stands as_runnable party }
-        ensures path { (path : List Deed) × RunPath (PolledOnce F.polled (cell_of self) around) ((a : A) × A.woken a) (HandedOver Q.scheduled (cell_of self) around) result.1 path × Did path as_ended party result.0 }
+        ensures path { (path : List Deed) × RunPath (PolledOnce F.polled (cell_of self) around) ((a : A) × (r : A.Record) × A.woken a r) (HandedOver Q.scheduled (cell_of self) around) result.1 path × Did path as_ended party result.0 }
     {
         let (party, started) = self.begin_run(party);
         if !started {
@@ -83,8 +83,8 @@ impl<R: Wait + Drop + Copy, F: Yields, Q: Drop, M: Drop, A: Wake, B: Allocator +
 
     fn end_closed_run(self, mut party: Party<F, Kept<F>, A>) -> Party<F, Kept<F>, A>
         requires cell { IsOf self party }
-        requires party { (y : Slot F _ A) × StandsWith (FutureInHand ClosedRun) (future_first y []) party }
-        ensures { Closes ((a : A) × A.woken a) party result }
+        requires party { (y : Slot F _) × StandsWith (FutureGone ClosedRun) (work_first y []) party }
+        ensures { Closes ((a : A) × (r : A.Record) × A.woken a r) party result }
     {
         self.close_run(&mut party);
         party
@@ -96,8 +96,8 @@ impl<R: Wait + Drop + Copy, F: Yields, Q: Drop, M: Drop, A: Wake, B: Allocator +
         output: Held<Kept<F>>,
     ) -> Party<F, Kept<F>, A>
         requires cell { IsOf self party }
-        requires party { (y : Slot F _ A) × StandsWith Ready (future_first y []) party }
-        ensures { (p : _) (y : Slot F _ A) → DidWith (act AnswerReady ∷ []) Ready (future_first y []) p party → EndsReady ((a : A) × A.woken a) p result }
+        requires party { (y : Slot F _) × StandsWith ReadyFutureDropped (work_first y []) party }
+        ensures { (p : _) (y : Slot F _) → DidWith (act AnswerReady ∷ act DropFuture ∷ []) ReadyFutureDropped (work_first y []) p party → EndsReady ((a : A) × (r : A.Record) × A.woken a r) p result }
     {
         self.finish_ready(&mut party, output);
         party
@@ -113,8 +113,8 @@ impl<R: Wait + Drop + Copy, F: Yields, Q: Drop, M: Drop, A: Wake, B: Allocator +
         Q: Schedule<Runnable<R, F, Q, M, A, X, B>>,
         requires cell { IsOf self party × (limit_of party ≡ limit_in self) }
         requires room { HasRoom found }
-        requires party { (p : _) × (y : Slot F _ A) × AnswersPending (future_first y []) p party found.closed × IsFuture y }
-        ensures { (p : _) (y : Slot F _ A) → AnswersPending (future_first y []) p party found.closed → EndsUnready ((a : A) × A.woken a) (HandedOver Q.scheduled (cell_of self) around) result.1 p result.0 }
+        requires party { (p : _) × (y : Slot F _) × AnswersPending (work_first y []) p party found.closed × IsFuture y }
+        ensures { (p : _) (y : Slot F _) → AnswersPending (work_first y []) p party found.closed → EndsUnready ((a : A) × (r : A.Record) × A.woken a r) (HandedOver Q.scheduled (cell_of self) around) result.1 p result.0 }
     {
         let woken = self.finish_pending(&mut party, found, around);
         (party, woken)

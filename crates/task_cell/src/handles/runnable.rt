@@ -1,16 +1,22 @@
 //! The calls of a Runnable.
-ghost use Rattle.std.specs.Prelude.{◌≡◌, IfSome, List, false};
+ghost use Rattle.std.specs.Prelude.{◌≡◌, IfOk, IfErr, List, [], true, false};
 ghost use Rattle.task_steps.specs.declared.table.Deed.{Deed};
 ghost use Rattle.task_cell.specs.Handed.{HandedOver, PolledOnce};
 ghost use Rattle.task_cell.specs.RunCalls.{Discards};
 ghost use Rattle.task_cell.specs.RunPaths.{RunPath};
-ghost use Rattle.task_cell.specs.Belongs.{cell_of};
+ghost use Rattle.task_cell.specs.Gained.{HasFoundLimit, HasGained};
+ghost use Rattle.task_cell.specs.Wakers.{is_owned};
+ghost use Rattle.task_cell.specs.Belongs.{cell_of, limit_in};
+ghost use Rattle.task_cell.specs.Calls.{Did};
+ghost use Rattle.task_steps.specs.Standing.{as_ended, as_runnable};
+ghost use Rattle.task_steps.specs.Witness.{Witness};
 
 use super::parked::ParkedRunnable;
 use crate::cell::waker::WakerSeat;
 use crate::cell::{EndedCall, Runnable, TaskWaker};
 use std::alloc::Allocator;
 use std::sync::Wait;
+use task_core::word::Word;
 use task_core::{Future, Schedule, Wake, Yields};
 use task_steps::table::Kept;
 
@@ -37,15 +43,26 @@ impl<
         self.around
     }
 
-    /// A waker of the task, which holds a reference. `None` where the count of references is at the limit; nothing has changed then.
-    pub fn waker(&self) -> Option<TaskWaker<R, F, Q, M, A, X, B>>
+    /// The word as one load finds it. The clause `witness` says all that is proved of it: an interleaving of the machine, from the spawn of this task, ends in it, all laws hold there, and one of the parties there is this Runnable. Nothing changes. It waits for nobody.
+    pub fn witness(&mut self) -> Word
+        ensures witness { Witness (limit_in self.old.inner.share) result as_runnable [] }
+        ensures same { (self.new.inner.share ≡ self.old.inner.share) × (self.new.inner.party ≡ self.old.inner.party) × (self.new.around ≡ self.old.around) }
+    {
+        self.inner.witness()
+    }
+
+    /// A waker of the task, which holds a reference. Where the count of references is at the limit, nothing has changed, and the error is the record of the call, which says so.
+    pub fn waker(&self) -> Result<TaskWaker<R, F, Q, M, A, X, B>, EndedCall<F, Kept<F>, A>>
     where
         Q: Schedule<Runnable<R, F, Q, M, A, X, B>>,
-        ensures cell { IfSome result (λ waker. cell_of waker.inner.share ≡ cell_of self.now.inner.share) }
-        ensures around { IfSome result (λ waker. waker.around ≡ self.now.around) }
+        ensures cell { IfOk result (λ waker. cell_of waker.inner.share ≡ cell_of self.now.inner.share) }
+        ensures around { IfOk result (λ waker. waker.around ≡ self.now.around) }
+        ensures owned { IfOk result (λ waker. is_owned waker.inner.hold ≡ true) }
+        ensures gained { IfOk result (λ _. HasGained self.now.inner.share) }
+        ensures refused { IfErr result (λ ended. HasFoundLimit self.now.inner.share ended.party) }
     {
-        let (share, party) = self.inner.share.gain_by_reference().0?;
-        Some(TaskWaker {
+        let (share, party) = self.inner.share.gain_by_reference()?;
+        Ok(TaskWaker {
             inner: WakerSeat::owned(share, party),
             around: self.around,
         })
@@ -53,12 +70,13 @@ impl<
 
     /// Does what a drop does: the task is closed, its future is dropped, and an awaiter that waits is woken.
     pub fn discard(self) -> EndedCall<F, Kept<F>, A>
-        ensures path { Discards ((a : A) × A.woken a) self.inner.party result.party }
+        ensures path { Discards ((a : A) × (r : A.Record) × A.woken a r) self.inner.party result.party }
     {
         let (inner, _) = self.into_parts();
         let (share, mut party) = inner.into_party();
+        let ledger = share.ledger();
         share.discard_runnable(&mut party);
-        party.let_go()
+        ledger.record(party)
     }
 
     /// The same handle without the surroundings. It makes no step.
@@ -90,17 +108,17 @@ impl<
         party.let_go();
     }
 
-    /// Runs the task once: polls its future, unless the task was closed. True where the task was woken meanwhile and its Runnable was handed to the schedule value.
-    pub fn run(self) -> bool
+    /// Runs the task once: polls its future, unless the task was closed. True where the task was woken meanwhile and its Runnable was handed to the schedule value. The record says which path the run took, also where the answer is false.
+    pub fn run(self) -> (bool, EndedCall<F, Kept<F>, A>)
     where
         F: Future<TaskWaker<R, F, Q, M, A, X, B>>,
         Q: Schedule<Runnable<R, F, Q, M, A, X, B>>,
-        ensures path { (path : List Deed) × RunPath (PolledOnce F.polled (cell_of self.inner.share) self.around) ((a : A) × A.woken a) (HandedOver Q.scheduled (cell_of self.inner.share) self.around) result path }
+        ensures path { (path : List Deed) × RunPath (PolledOnce F.polled (cell_of self.inner.share) self.around) ((a : A) × (r : A.Record) × A.woken a r) (HandedOver Q.scheduled (cell_of self.inner.share) self.around) result.0 path × Did path as_ended self.inner.party result.1.party }
     {
         let (inner, around) = self.into_parts();
         let (share, party) = inner.into_party();
+        let ledger = share.ledger();
         let (ended, woken) = share.run(party, around);
-        ended.let_go();
-        woken
+        (woken, ledger.record(ended))
     }
 }

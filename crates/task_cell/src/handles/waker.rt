@@ -1,10 +1,15 @@
 //! The calls of a waker.
-ghost use Rattle.std.specs.Prelude.{◌≡◌, ⊤, List, [], false, IfSome};
+ghost use Rattle.std.specs.Prelude.{◌≡◌, List, [], true, false, IfSome, IfOk, IfErr, is_some};
 ghost use Rattle.task_steps.specs.declared.table.Deed.{Deed};
-ghost use Rattle.task_cell.specs.Belongs.{HasMade, IsOf, cell_of, limit_in};
+ghost use Rattle.task_cell.specs.Belongs.{HasEnded, HasMade, IsOf, cell_of, limit_in};
 ghost use Rattle.task_cell.specs.Calls.{Sees, limit_of, second};
 ghost use Rattle.task_cell.specs.Handed.{HandedOver};
-ghost use Rattle.task_cell.specs.WakerPaths.{WakeCallPath, WakesTask};
+ghost use Rattle.task_cell.specs.Gained.{HasFoundLimit, HasGained};
+ghost use Rattle.task_cell.specs.WakerCalls.{IsClone, WasGivenUp, WokeBy};
+ghost use Rattle.task_cell.specs.WakerPaths.{WakerDropPath, WakesTask};
+ghost use Rattle.task_cell.specs.Wakers.{is_owned};
+ghost use Rattle.task_steps.specs.Standing.{as_lent};
+ghost use Rattle.task_steps.specs.Witness.{Witness};
 
 use super::parked::ParkedWaker;
 use super::stored::StoredWaker;
@@ -29,16 +34,17 @@ where
 {
     /// Wakes the task, and gives the waker up: `wake_by_ref`, and then a drop. By a waker whose surroundings are `()` it cancels the task where the schedule value drops Runnables without an executor.
     pub fn wake(self) -> EndedCall<F, Kept<F>, A>
-        ensures path { (path : List Deed) × WakeCallPath (HandedOver Q.scheduled (cell_of self.inner.share) self.around false) path × HasMade self.inner.share path result.party }
+        ensures path { WokeBy Q.scheduled self result.party }
+        ensures given_up { WasGivenUp Q.scheduled self }
     {
         let woken = self.wake_by_ref();
-        drop(self);
+        self.discard();
         woken
     }
 
     /// Wakes the task. A task that is over stays as it is; one that is scheduled will be polled after this call; one that runs is scheduled once more by its run; and of one that is idle, a Runnable is handed to the schedule value, with `woken_while_running` false and the surroundings of this waker. Where these are `()`, and the schedule value drops such Runnables, the task is cancelled.
     pub fn wake_by_ref(&self) -> EndedCall<F, Kept<F>, A>
-        ensures path { (path : List Deed) × WakeCallPath (HandedOver Q.scheduled (cell_of self.now.inner.share) self.now.around false) path × HasMade self.now.inner.share path result.party }
+        ensures path { WokeBy Q.scheduled self.now result.party }
     {
         match self.inner.share.wake_once() {
             (party, Ok(woken)) => self.end_wake(party, woken),
@@ -52,7 +58,7 @@ where
     fn wake_again(&self, mut party: Party<F, Kept<F>, A>, word: Word) -> EndedCall<F, Kept<F>, A>
         requires cell { IsOf self.now.inner.share party × (limit_of party ≡ limit_in self.now.inner.share) }
         requires party { (p : _) × HasMade self.now.inner.share [] p × Sees word p party }
-        ensures path { (path : List Deed) × WakeCallPath (HandedOver Q.scheduled (cell_of self.now.inner.share) self.now.around false) path × HasMade self.now.inner.share path result.party }
+        ensures path { WokeBy Q.scheduled self.now result.party }
     {
         let woken = self.inner.share.wake_again(&mut party, word);
         self.end_wake(party, woken)
@@ -67,24 +73,34 @@ where
     ) -> EndedCall<F, Kept<F>, A>
         requires party { (p : _) × HasMade self.now.inner.share [] p × WakesTask p party (second woken) }
         requires share { IfSome woken (λ made. cell_of made.0 ≡ cell_of self.now.inner.share) }
-        ensures path { (path : List Deed) × WakeCallPath (HandedOver Q.scheduled (cell_of self.now.inner.share) self.now.around false) path × HasMade self.now.inner.share path result.party }
+        ensures path { WokeBy Q.scheduled self.now result.party }
     {
         match woken {
-            None => party.give_back(),
+            None => self.inner.share.ledger().record(party),
             Some((share, deliverer)) => {
                 self.inner.share.finish_wake(share, deliverer, self.around);
-                party.give_back()
+                self.inner.share.ledger().record(party)
             }
         }
     }
 
-    /// One more waker of the same task, which holds a reference. `None` where the count of references is at the limit; nothing has changed then.
-    pub fn try_clone(&self) -> Option<Self>
-        ensures cell { IfSome result (λ waker. cell_of waker.inner.share ≡ cell_of self.now.inner.share) }
-        ensures around { IfSome result (λ waker. waker.around ≡ self.now.around) }
+    /// The word as one load finds it. The clause `witness` says all that is proved of it: an interleaving of the machine, from the spawn of this task, ends in it, all laws hold there, and one of the parties there is the one that this call got. What a wake did, its record says. It waits for nobody.
+    pub fn witness(&self) -> Word
+        ensures witness { Witness (limit_in self.now.inner.share) result as_lent [] }
+    {
+        self.inner.share.witness_by_reference()
+    }
+
+    /// One more waker of the same task, which holds a reference. Where the count of references is at the limit, nothing has changed, and the error is the record of the call, which says so.
+    pub fn try_clone(&self) -> Result<Self, EndedCall<F, Kept<F>, A>>
+        ensures cell { IfOk result (λ waker. cell_of waker.inner.share ≡ cell_of self.now.inner.share) }
+        ensures around { IfOk result (λ waker. waker.around ≡ self.now.around) }
+        ensures owned { IfOk result (λ waker. is_owned waker.inner.hold ≡ true) }
+        ensures gained { IfOk result (λ _. HasGained self.now.inner.share) }
+        ensures refused { IfErr result (λ ended. HasFoundLimit self.now.inner.share ended.party) }
     {
         let inner = self.inner.gain()?;
-        Some(TaskWaker {
+        Ok(TaskWaker {
             inner,
             around: self.around,
         })
@@ -105,9 +121,23 @@ where
         self.around
     }
 
-    /// Does what a drop does: gives the reference up. The last handle of a detached task that is open closes it, and hands its Runnable over.
-    pub fn discard(self) {
-        drop(self);
+    /// Does what a drop does: gives the reference up. The last handle of a detached task that is open closes it, and hands its Runnable over. `None` of the waker that a poll is lent, which holds no reference, and is never dropped: its run takes it back.
+    pub fn discard(self) -> Option<EndedCall<F, Kept<F>, A>>
+        ensures path { IfSome result (λ ended. (path : List Deed) × WakerDropPath (HandedOver Q.scheduled (cell_of self.inner.share) self.around false) path × HasEnded self.inner.share path ended.party) }
+        ensures owned { is_owned self.inner.hold ≡ true → is_some result ≡ true }
+    {
+        let (inner, around) = self.into_parts();
+        match inner.into_owned() {
+            Ok((share, mut party)) => {
+                let ledger = share.ledger();
+                share.drop_waker(&mut party, around);
+                Some(ledger.record(party))
+            }
+            Err(lent) => {
+                lent.into_share().leak();
+                None
+            }
+        }
     }
 
     /// The same handle without the surroundings. It makes no step.
@@ -148,23 +178,25 @@ impl<R: Wait + Drop + Copy, F: Yields, Q: Drop, M: Drop, A: Wake, X: Copy, B: Al
 where
     Q: Schedule<Runnable<R, F, Q, M, A, X, B>>,
 {
-    ghost woken = { λ _. ⊤ };
+    type Record = EndedCall<F, Kept<F>, A>;
 
-    ghost woken_by_ref = { λ _. ⊤ };
+    ghost woken = { λ waker ended. WokeBy Q.scheduled waker ended.party × WasGivenUp Q.scheduled waker };
 
-    ghost cloned = { λ waker clone. IfSome clone (λ c. (cell_of c.inner.share ≡ cell_of waker.inner.share) × (c.around ≡ waker.around)) };
+    ghost woken_by_ref = { λ waker ended. WokeBy Q.scheduled waker ended.party };
+
+    ghost cloned = { λ waker result. IfOk result (λ clone. IsClone waker clone) × IfErr result (λ ended. HasFoundLimit waker.inner.share ended.party) };
 
     ghost compared = { λ _ _ answer. answer ≡ false };
 
-    fn wake(self) {
-        TaskWaker::wake(self);
+    fn wake(self) -> EndedCall<F, Kept<F>, A> {
+        TaskWaker::wake(self)
     }
 
-    fn wake_by_ref(&self) {
-        TaskWaker::wake_by_ref(self);
+    fn wake_by_ref(&self) -> EndedCall<F, Kept<F>, A> {
+        TaskWaker::wake_by_ref(self)
     }
 
-    fn try_clone(&self) -> Option<Self> {
+    fn try_clone(&self) -> Result<Self, EndedCall<F, Kept<F>, A>> {
         TaskWaker::try_clone(self)
     }
 

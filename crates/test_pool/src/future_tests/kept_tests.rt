@@ -16,9 +16,11 @@ struct Deaf {
 }
 
 impl Wake for Deaf {
-    ghost woken = { λ _. ⊤ };
+    type Record = ();
 
-    ghost woken_by_ref = { λ _. ⊤ };
+    ghost woken = { λ _ _. ⊤ };
+
+    ghost woken_by_ref = { λ _ _. ⊤ };
 
     ghost cloned = { λ _ _. ⊤ };
 
@@ -28,11 +30,11 @@ impl Wake for Deaf {
 
     fn wake_by_ref(&self) {}
 
-    fn try_clone(&self) -> Option<Deaf> {
+    fn try_clone(&self) -> Result<Deaf, ()> {
         if self.is_single {
-            return None;
+            return Err(());
         }
-        Some(Deaf { is_single: false })
+        Ok(Deaf { is_single: false })
     }
 
     fn will_wake(&self, _other: &Deaf) -> bool {

@@ -2,53 +2,50 @@
 ghost use Rattle.std.specs.Prelude.{◌≡◌, ◌==◌};
 ghost use Rattle.test_tasks.specs.Stages.{Staged};
 
-use atomic_table::{Play, TableRule};
-use counted_block::{Bare, BlockRule, CountPlay, Inner, Share};
+use atomic_table::Play;
+use counted_block::{Bare, BlockRule, CountPlay, Inner, Place, Share};
 use linked_list_allocator::LocalHeap;
 
 /// The seat knows the stage: 0 with two shares, 1 with one, and 2 once it has noted the end.
 struct Stages;
 
-impl TableRule<u8, u64, ()> for Stages {
+impl BlockRule<u8, u16, u64, ()> for Stages {
     ghost holds = { λ _ s. Staged s };
 
     ghost first = { λ _. 0 };
-}
 
-impl BlockRule<u8, u64, ()> for Stages {
     ghost out = { λ n. n };
 }
 
 /// One of the two shares ends.
 struct Halve;
 
-impl Play<u8, u64> for Halve {
+impl Play<Place<u8, u16>, u64> for Halve {
     ghost then = { λ _ _ n after. (n ≡ 2) × (after.0 ≡ 1) };
 }
 
-impl CountPlay<u8, u64> for Halve {
+impl CountPlay<Place<u8, u16>, u64> for Halve {
     ghost counts = { λ _ n. n == 2 };
 }
 
 /// The seat notes that all is over.
 struct NoteEnd;
 
-impl Play<u8, u64> for NoteEnd {
+impl Play<Place<u8, u16>, u64> for NoteEnd {
     ghost then = { λ _ _ _ after. after.0 ≡ 2 };
 }
 
-// The word that the exchange found, the value and the third slot that the block had, and whether its memory was given back before the note.
-fn halve_close_and_note(heap: &LocalHeap) -> Option<(u64, u64, u8, bool)> {
+// The word that the exchange found, the value and the second slot that the block had, and whether its memory was given back before the note.
+fn halve_close_and_note(heap: &LocalHeap) -> Option<(u64, u64, u16, bool)> {
     let inner = Inner {
         word: 2,
         holds: 0,
         first: 10,
-        second: 20,
-        third: 30,
+        second: 300,
         value: 7,
     };
     let block = Box::new(heap, inner).ok()?;
-    let (share, other, mut seat) = Share::<u8, u64, (), Stages, u64, &LocalHeap>::new_pair(
+    let (share, other, mut seat) = Share::<u8, u16, u64, (), Stages, u64, &LocalHeap>::new_pair(
         Bare::of(block),
         &(),
     );
@@ -58,12 +55,12 @@ fn halve_close_and_note(heap: &LocalHeap) -> Option<(u64, u64, u8, bool)> {
     let inner = Box::into_inner(bare.into_box(heap));
     let is_freed = heap.used() == 0;
     ledger.note::<NoteEnd>(&mut seat);
-    Some((found, inner.value, inner.third, is_freed))
+    Some((found, inner.value, inner.second, is_freed))
 }
 
 #[test]
 fn a_seat_notes_after_its_block_is_gone(rt: HostRuntime) {
     let heap = LocalHeap::new(rt.alloc(), 4096).expect(&rt, "refused");
     let seen = halve_close_and_note(&heap);
-    assert!(rt; seen == Some((2, 7, 30, true)));
+    assert!(rt; seen == Some((2, 7, 300, true)));
 }

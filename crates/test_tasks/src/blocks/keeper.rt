@@ -7,7 +7,7 @@ use std::alloc::Allocator;
 
 /// It sees the value, and is no owner. It may outlive them all.
 pub struct Keeper<T, A: Allocator + Copy> {
-    pub(crate) hold: Hold<(), View, (), Law, T, A>,
+    pub(crate) hold: Hold<(), (), View, (), Law, T, A>,
     pub(crate) alloc: A,
     ghost kept: { hold.heap ≡ alloc },
 }

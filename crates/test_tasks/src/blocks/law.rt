@@ -2,8 +2,8 @@
 ghost use Rattle.std.specs.Prelude.{false};
 ghost use Rattle.test_tasks.specs.Counting.{view, Agrees, shares_out, Entered, Gained, gains_share, Parted, parts_share};
 
-use atomic_table::{Play, TableRule};
-use counted_block::{BlockRule, CountPlay};
+use atomic_table::Play;
+use counted_block::{BlockRule, CountPlay, Place};
 
 /// What one owner knows: how many owners it stands for, which is 0 or 1, and whether it was the last.
 pub struct View {
@@ -14,41 +14,39 @@ pub struct View {
 /// The word is the sum of the owners, and is 0 once one of them was the last.
 pub struct Law;
 
-impl TableRule<(), View, ()> for Law {
+impl BlockRule<(), (), View, ()> for Law {
     ghost holds = { λ _ s. Agrees s };
 
     ghost first = { λ _. view 1 false };
-}
 
-impl BlockRule<(), View, ()> for Law {
     ghost out = { shares_out };
 }
 
 /// A new seat comes, which stands for no owner yet.
 pub(crate) struct Enter;
 
-impl Play<(), View> for Enter {
+impl Play<Place<(), ()>, View> for Enter {
     ghost then = { Entered };
 }
 
 /// One owner more, if the word is as expected.
 pub(crate) struct Gain;
 
-impl Play<(), View> for Gain {
+impl Play<Place<(), ()>, View> for Gain {
     ghost then = { Gained };
 }
 
-impl CountPlay<(), View> for Gain {
+impl CountPlay<Place<(), ()>, View> for Gain {
     ghost counts = { gains_share };
 }
 
 /// One owner less. The last one keeps its share, to close the block.
 pub(crate) struct Part;
 
-impl Play<(), View> for Part {
+impl Play<Place<(), ()>, View> for Part {
     ghost then = { Parted };
 }
 
-impl CountPlay<(), View> for Part {
+impl CountPlay<Place<(), ()>, View> for Part {
     ghost counts = { parts_share };
 }

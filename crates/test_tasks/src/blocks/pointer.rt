@@ -15,8 +15,8 @@ const TRIES: u64 = 1 << 32;
 
 /// One owner of a value, which may cross threads. There is no count but the word of the block.
 pub struct Pointer<T, A: Allocator + Copy> {
-    share: Share<(), View, (), Law, T, A>,
-    seat: Seat<(), View>,
+    share: Share<(), (), View, (), Law, T, A>,
+    seat: Seat<(), (), View>,
     alloc: A,
     ghost seated: { (seat.block ≡ share.id) × (seat.me.0 ≡ view 1 false) × (share.heap ≡ alloc) },
 }
@@ -32,7 +32,6 @@ impl<T, A: Allocator + Copy> Pointer<T, A> {
             holds: 0,
             first: (),
             second: (),
-            third: (),
             value,
         };
         match Box::new(alloc, inner) {

@@ -101,7 +101,7 @@ fn wake_in_full_heap<R: Wait + Abort + Drop + Copy>(
     let filling = tray::fill(rt, alloc, heap);
     let used = heap.used();
     let waker = tray::waker_of(rt, &runnable);
-    let Some(clone) = waker.try_clone() else {
+    let Ok(clone) = waker.try_clone() else {
         panic!(rt; "a clone of a waker was refused");
     };
     let first = tray::run(runnable);

@@ -86,8 +86,8 @@ impl<'x, R: Wait + Drop + Copy, M: Drop, B: Allocator + Copy> Future<WideWaker<'
 
     fn poll(&mut self, waker: &WideWaker<'x, R, M, B>) -> Poll<Output> {
         match waker.try_clone() {
-            Some(clone) => drop(clone),
-            None => waker.around().add_one(),
+            Ok(clone) => drop(clone),
+            Err(_) => waker.around().add_one(),
         }
         self.inner.answer_alone()
     }
@@ -281,7 +281,7 @@ fn spawn_limited<'x, 'heap, R: Wait + Abort + Drop + Copy>(
 
 // Whether a waker is refused a clone. One that is given is dropped.
 fn refuses_clone<R: Wait + Drop + Copy>(waker: &HeapWaker<'_, '_, R>) -> bool {
-    waker.try_clone().is_none()
+    waker.try_clone().is_err()
 }
 
 // Asks a Runnable, a waker and a clone for wakers above the limit: whether all were refused, before the run and after it, and one in
@@ -293,15 +293,15 @@ fn ask_at_limit<R: Wait + Abort + Drop + Copy>(
 ) -> (bool, Counts) {
     let around = Counter::new();
     let (runnable, task) = spawn_limited(rt, heap, &around, counters);
-    let Some(waker) = runnable.waker() else {
+    let Ok(waker) = runnable.waker() else {
         panic!(rt; "a waker was refused");
     };
-    let refused = runnable.waker().is_none();
+    let refused = runnable.waker().is_err();
     let clone_refused = refuses_clone(&waker);
     runnable.run();
     let refused_polls = around.get();
     let polled = counters.counts();
-    let Some(clone) = waker.try_clone() else {
+    let Ok(clone) = waker.try_clone() else {
         panic!(rt; "a clone of a waker was refused");
     };
     let refused_later = refuses_clone(&waker);

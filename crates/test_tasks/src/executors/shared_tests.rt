@@ -91,7 +91,7 @@ fn wake_by_two<'x, R: Wait + Threads + Drop + Copy + Send + Sync>(
     meeting: &'x Meeting,
 ) -> bool {
     thread::scope(thread::scope_env(), rt, |scope| {
-        if scope.spawn(move || waker.wake_by_ref()).is_err() {
+        if scope.spawn(move || drop(waker.wake_by_ref())).is_err() {
             return false;
         }
         wake_beside(waker, meeting)
@@ -105,7 +105,7 @@ fn wakes_go_on<'x, R: Wait + Threads + Abort + Drop + Copy + Send + Sync>(
     meeting: &'x Meeting,
 ) -> bool {
     let (runnable, task) = spawn(rt, alloc, Idle, Stops, meeting).expect(&rt, "refused");
-    let Some(waker) = runnable.waker() else {
+    let Ok(waker) = runnable.waker() else {
         return false;
     };
     runnable.run();

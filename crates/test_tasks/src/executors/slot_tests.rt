@@ -92,7 +92,7 @@ impl<R: Wait + Drop + Copy> Slots<R> {
     fn run_last(&self) -> Option<(u64, bool)> {
         let runnable = self.take()?;
         let number = *runnable.metadata();
-        Some((number, runnable.run()))
+        Some((number, runnable.run().0))
     }
 
     // Whether the list has just the Runnables of tasks with these metadata, in this order.

@@ -49,7 +49,7 @@ fn storm<'x, R: Wait + Threads + Drop + Copy + Send + Sync>(
 ) -> bool {
     thread::scope(thread::scope_env(), rt, |scope| {
         for _ in 0..THREADS {
-            let Some(waker) = runnable.waker() else {
+            let Ok(waker) = runnable.waker() else {
                 return false;
             };
             if scope.spawn(move || wake_often(waker, ended)).is_err() {

@@ -215,7 +215,7 @@ pub fn spawn_in<'x, 'heap, R: Wait + Abort + Drop + Copy>(
 
 /// Runs: what the run answers.
 pub fn run<R: Wait + Drop + Copy>(runnable: TrayRunnable<'_, '_, R>) -> bool {
-    runnable.run()
+    runnable.run().0
 }
 
 /// Schedules a Runnable, and takes it off the tray again.
@@ -269,8 +269,8 @@ pub fn waker_of<'x, 'heap, R: Wait + Abort + Drop + Copy>(
     runnable: &TrayRunnable<'x, 'heap, R>,
 ) -> TrayWaker<'x, 'heap, R> {
     match runnable.waker() {
-        Some(waker) => waker,
-        None => panic!(rt; "a waker was refused"),
+        Ok(waker) => waker,
+        Err(_) => panic!(rt; "a waker was refused"),
     }
 }
 

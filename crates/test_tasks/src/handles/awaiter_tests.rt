@@ -156,7 +156,7 @@ fn end_by<R: Wait + Drop + Copy>(
 ) -> Option<bool> {
     match first {
         First::Run => {
-            let rescheduled = runnable.run();
+            let (rescheduled, _) = runnable.run();
             drop(task);
             Some(rescheduled)
         }
@@ -167,11 +167,11 @@ fn end_by<R: Wait + Drop + Copy>(
         }
         First::DropTask => {
             drop(task);
-            Some(runnable.run())
+            Some(runnable.run().0)
         }
         First::Detach => {
             task.detach();
-            Some(runnable.run())
+            Some(runnable.run().0)
         }
     }
 }

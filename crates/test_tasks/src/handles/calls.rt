@@ -135,12 +135,12 @@ pub fn waker_of<'x, R: Wait + Abort + Drop + Copy>(
     rt: R,
     runnable: &RowRunnable<'x, R>,
 ) -> RowWaker<'x, R> {
-    runnable.waker().expect(&rt, "refused")
+    runnable.waker().ok().expect(&rt, "refused")
 }
 
 /// Whether a Runnable is refused a waker. One that is given is dropped.
 pub fn refuses_waker<R: Wait + Drop + Copy>(runnable: &RowRunnable<'_, R>) -> bool {
-    !drop_given(runnable.waker())
+    !drop_given(runnable.waker().ok())
 }
 
 /// A clone of a waker. Stops where it is refused.
@@ -148,17 +148,17 @@ pub fn clone_of<'x, R: Wait + Abort + Drop + Copy>(
     rt: R,
     waker: &RowWaker<'x, R>,
 ) -> RowWaker<'x, R> {
-    waker.try_clone().expect(&rt, "refused")
+    waker.try_clone().ok().expect(&rt, "refused")
 }
 
 /// Whether a waker is refused a clone. One that is given is dropped.
 pub fn refuses_clone<R: Wait + Drop + Copy>(waker: &RowWaker<'_, R>) -> bool {
-    !drop_given(waker.try_clone())
+    !drop_given(waker.try_clone().ok())
 }
 
 /// Clones an awaiter, and wakes the clone by value: whether the awaiter knew it, or `None` where it was refused.
 pub fn wake_clone<W: Wake>(awaiter: &W) -> Option<bool> {
-    let clone = awaiter.try_clone()?;
+    let clone = awaiter.try_clone().ok()?;
     let known = awaiter.will_wake(&clone);
     clone.wake();
     Some(known)

@@ -257,9 +257,11 @@ impl Drop for EndAwaiter {
 }
 
 impl Wake for EndAwaiter {
-    ghost woken = { λ _. ⊤ };
+    type Record = ();
 
-    ghost woken_by_ref = { λ _. ⊤ };
+    ghost woken = { λ _ _. ⊤ };
+
+    ghost woken_by_ref = { λ _ _. ⊤ };
 
     ghost cloned = { λ _ _. ⊤ };
 
@@ -278,9 +280,11 @@ impl Wake for EndAwaiter {
         self.journal.note(Event::Woken);
     }
 
-    fn try_clone(&self) -> Option<EndAwaiter> {
-        let journal = Arc::try_clone(&self.journal).ok()?;
-        Some(EndAwaiter {
+    fn try_clone(&self) -> Result<EndAwaiter, ()> {
+        let Ok(journal) = Arc::try_clone(&self.journal) else {
+            return Err(());
+        };
+        Ok(EndAwaiter {
             journal,
             is_stored: true,
         })
@@ -459,8 +463,8 @@ fn waker_of<'x, 'm, R: Wait + Abort + Drop + Copy>(
     runnable: &EndRunnable<'x, 'm, R>,
 ) -> EndWaker<'x, 'm, R> {
     match runnable.waker() {
-        Some(waker) => waker,
-        None => panic!(ground.rt; "a waker was refused"),
+        Ok(waker) => waker,
+        Err(_) => panic!(ground.rt; "a waker was refused"),
     }
 }
 

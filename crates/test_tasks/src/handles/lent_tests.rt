@@ -2,7 +2,9 @@
 ghost use Rattle.std.specs.Prelude.{⊤};
 
 use crate::handles::calls::ends_of;
-use async_task::{Cancel, Future, Poll, Runnable, Schedule, ScheduleInfo, TaskPoll, Yields, spawn};
+use async_task::{
+    Cancel, Future, Poll, Runnable, Schedule, ScheduleInfo, TaskPoll, TaskWaker, Yields, spawn,
+};
 use rows_fixtures::counters::Counter;
 use rows_fixtures::flag::Flag;
 use rows_fixtures::rendezvous::Rendezvous;
@@ -62,7 +64,9 @@ impl<'x, R: Wait + Drop + Copy> Schedule<Runnable<R, Polls<'x>, AtOnce, (), Flag
 fn wake_at_once<'x, R: Wait + Abort + Drop + Copy>(rt: R, alloc: Global, polls: &'x Counter) {
     let spawned = spawn(rt, alloc, Polls(polls), AtOnce, true);
     let (runnable, task) = spawned.expect(&rt, "refused");
-    let waker = runnable.waker().expect(&rt, "refused");
+    let Ok(waker) = runnable.waker() else {
+        panic!(rt; "refused");
+    };
     runnable.run();
     waker.wake();
     task.detach();
@@ -141,6 +145,15 @@ fn poll_at_meetings<R: Wait + Drop + Copy>(
     [polling, waits, dropping, closed]
 }
 
+// Runs a task. Where the output shows a lifetime, the record of the run could not be dropped.
+fn run<R: Wait + Drop + Copy, F: Yields, Q: Drop>(runnable: Runnable<R, F, Q, (), Flag, ()>)
+where
+    F: Future<TaskWaker<R, F, Q, (), Flag, ()>>,
+    Q: Schedule<Runnable<R, F, Q, (), Flag, ()>>,
+{
+    runnable.run();
+}
+
 // Runs a task in a second thread, and polls its Cancel at both meetings. Stops where there is no thread.
 fn cancel_beside<'x, R: Wait + Threads + Abort + Drop + Copy + Send + Sync>(
     rt: R,
@@ -153,7 +166,7 @@ fn cancel_beside<'x, R: Wait + Threads + Abort + Drop + Copy + Send + Sync>(
     let (runnable, task) = spawn(rt, alloc, Meets(meetings), Nowhere, ()).expect(&rt, "refused");
     let mut cancel = task.cancel();
     thread::scope(thread::scope_env(), &rt, |scope| {
-        if scope.spawn(move || runnable.run()).is_err() {
+        if scope.spawn(move || run(runnable)).is_err() {
             panic!(rt; "no thread");
         }
         poll_at_meetings(&mut cancel, meetings, flag)

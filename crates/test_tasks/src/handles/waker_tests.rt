@@ -181,7 +181,7 @@ fn a_forgotten_handle_is_one_that_is_left(rt: HostRuntime) {
 
 // Whether a flag could be cloned. The clone is dropped.
 fn is_cloned(flag: &Flag) -> bool {
-    flag.try_clone().is_some()
+    flag.try_clone().is_ok()
 }
 
 // Wakes a flag, clones it and wakes the clone, clones it once more, and has a clone refused: how its clones had ended after the wake and before the refusal,

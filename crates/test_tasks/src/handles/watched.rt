@@ -50,9 +50,11 @@ impl Drop for Watched {
 }
 
 impl Wake for Watched {
-    ghost woken = { λ _. ⊤ };
+    type Record = ();
 
-    ghost woken_by_ref = { λ _. ⊤ };
+    ghost woken = { λ _ _. ⊤ };
+
+    ghost woken_by_ref = { λ _ _. ⊤ };
 
     ghost cloned = { λ _ _. ⊤ };
 
@@ -68,10 +70,12 @@ impl Wake for Watched {
         self.flag.wake_by_ref();
     }
 
-    fn try_clone(&self) -> Option<Watched> {
-        let rendezvous = Arc::try_clone(&self.rendezvous).ok()?;
+    fn try_clone(&self) -> Result<Watched, ()> {
+        let Ok(rendezvous) = Arc::try_clone(&self.rendezvous) else {
+            return Err(());
+        };
         let flag = self.flag.try_clone()?;
-        Some(Watched { flag, rendezvous })
+        Ok(Watched { flag, rendezvous })
     }
 
     fn will_wake(&self, _other: &Watched) -> bool {

@@ -2,10 +2,8 @@
 ghost use Rattle.std.specs.Prelude.{◌≡◌, ◌+◌, ◌<◌, ℕ, ◌*◌, true, false, IfSome};
 ghost use Rattle.work_queues.specs.Sleep.{padding, owing, paid, left_of};
 
-use super::{ASLEEP, Bells, Look, Place, SHOWN, Seat, WOKEN, Woken, leave};
-use crate::watch::{
-    EnterOwing, LookAtFlag, LookAtWorker, LookForSearcher, LookForSleepers, Settle, Wake,
-};
+use super::{Bells, Look, Place, SHOWN, Seat, Woken, leave};
+use crate::watch::{EnterOwing, LookAtFlag, LookForSearcher, LookForSleepers, Settle};
 
 impl Bells {
     // Whether a worker sleeps and none searches: then all is owed. Else nothing is.
@@ -23,23 +21,6 @@ impl Bells {
         self.table.shared.load::<LookForSearcher>(seat, searcher) == 0
     }
 
-    // Wakes this worker, if it is asleep.
-    fn wake(&self, seat: &mut Seat, worker: usize) -> bool
-        requires { (seat.old.table_id ≡ self.now.table.shared.table_id) × (worker < self.now.workers) × (seat.old.me.0.owes ≡ 1) × (seat.old.me.0.from ≡ worker) }
-        ensures id { seat.new.table_id ≡ seat.old.table_id }
-        ensures woken { result ≡ true → seat.new.me ≡ (paid seat.old.me.0, seat.old.me.1) }
-        ensures passed { result ≡ false → seat.new.me ≡ (left_of seat.old.me.0 seat.old.me.0.seen (worker + 1), seat.old.me.1) }
-    {
-        let word = self.worker_word(worker);
-        if self.table.shared.load::<LookAtWorker>(seat, word) != ASLEEP {
-            return false;
-        }
-        self.table
-            .shared
-            .compare_exchange::<Wake>(seat, word, ASLEEP, WOKEN)
-            == ASLEEP
-    }
-
     // Wakes a worker, if one sleeps and none searches. After it no look is owed.
     pub(super) fn call(&self, seat: &mut Seat) -> Option<Woken>
         requires { seat.old.table_id ≡ self.now.table.shared.table_id }
@@ -51,8 +32,8 @@ impl Bells {
             return None;
         }
         for worker in 0..self.workers {
-            if self.wake(seat, worker) {
-                return Some(Woken { worker });
+            if let Some(woken) = self.wake(seat, worker) {
+                return Some(woken);
             }
         }
         let word = self.sleepers_word();
@@ -103,21 +84,17 @@ impl Bells {
         }
     }
 
-    /// Looks that nobody has asked for.
-    pub fn look(&self) -> Look
+    // The looks that are owed, or looks that nobody has asked for.
+    pub(super) fn look_of(&self, owed: Option<Look>) -> Look
+        requires { IfSome owed (λ look. look.place.seat.table_id ≡ self.now.table.shared.table_id) }
         ensures { result.place.seat.table_id ≡ self.now.table.shared.table_id }
     {
+        if let Some(look) = owed {
+            return look;
+        }
         let word = self.sleepers_word();
         let (_, seat) = self.table.shared.load_new_seat::<EnterOwing>(word);
         let place = Place { seat };
         Look { place }
-    }
-
-    /// Wakes the thread of a worker that a step has woken.
-    pub fn ring(&self, woken: Woken)
-        requires { woken.worker < self.now.workers }
-    {
-        let Woken { worker } = woken;
-        self.table.shared.wake_one(self.worker_word(worker));
     }
 }

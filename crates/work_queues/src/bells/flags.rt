@@ -1,9 +1,9 @@
 //! The flags of queues.
 ghost use Rattle.std.specs.Prelude.{◌≡◌, ◌≤◌, ◌<◌, false, IfSome};
-ghost use Rattle.work_queues.specs.Duties.{IsFlag};
+ghost use Rattle.work_queues.specs.Duties.{IsFlag, SawNothing};
 
-use super::{Bells, FREE, Flag, HIDDEN, Place, SHOWN, Woken, leave};
-use crate::watch::{Hide, Show, Take};
+use super::{Bells, FREE, Flag, HIDDEN, NothingShown, Place, SHOWN, Woken, leave};
+use crate::watch::{Hide, LookAtFlag, Show, Take};
 
 impl Bells {
     // The right to the flag of a queue, which shows nothing. `None` where somebody has it.
@@ -47,6 +47,20 @@ impl Bells {
             flag.shows = false;
         }
         None
+    }
+
+    /// Looks at the flag of each queue. `None` where one shows items.
+    pub fn shows_none(&self) -> Option<NothingShown>
+        ensures { IfSome result (λ none. SawNothing self.now none) }
+    {
+        let Place { mut seat } = self.enter();
+        for queue in 0..self.workers + 1 {
+            let word = self.flag_word(queue);
+            if self.table.shared.load::<LookAtFlag>(&mut seat, word) == SHOWN {
+                return None;
+            }
+        }
+        Some(NothingShown { seat })
     }
 
     /// Whether the flag of a queue shows items. No seat is needed for a look that nothing is claimed of.

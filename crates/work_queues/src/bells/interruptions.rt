@@ -1,45 +1,47 @@
 //! Interruptions: a worker looks once more, though no queue shows an item.
-ghost use Rattle.std.specs.Prelude.{◌≡◌, ◌<◌, IfSome};
-ghost use Rattle.work_queues.specs.Duties.{IsClaim};
+ghost use Rattle.std.specs.Prelude.{◌≡◌, ◌<◌, ◌≤◌, ◌+◌, ◌↔◌, IfSome, IsNone};
+ghost use Rattle.work_queues.specs.Duties.{IsClaim, IsInterrupted};
 
-use super::{ASLEEP, AWAKE, Bells, Claim, HIDDEN, Heard, INTERRUPTED, SHOWN, WOKEN, Woken, leave};
-use crate::watch::{Interrupt, Plain};
+use super::{
+    ASLEEP, AWAKE, AllInterrupted, Bells, Claim, Due, HIDDEN, Heard, INTERRUPTED, Interrupted,
+    NotDue, Place, SHOWN, Woken,
+};
+use crate::watch::{Hear, Interrupt, LookWhetherDue, Permit};
 use std::sync::atomic::Ordering;
 
 impl Bells {
     // Has this worker look once more, and answers it if it slept.
-    fn permit(&self, worker: usize) -> Option<Woken>
+    fn permit(&self, worker: usize) -> (Interrupted, Option<Woken>)
         requires { worker < self.now.workers }
-        ensures { IfSome result (λ woken. woken.worker ≡ worker) }
+        ensures interrupted { IsInterrupted self.now worker result.0 }
+        ensures woken { IfSome result.1 (λ woken. woken.worker ≡ worker) }
     {
-        let mut place = self.enter();
+        let Place { mut seat } = self.enter();
         let word = self.worker_word(worker);
         let shared = &self.table.shared;
-        let found = shared.compare_exchange::<Plain>(&mut place.seat, word, AWAKE, INTERRUPTED);
-        // Where the second exchange finds another word, the worker has got up meanwhile, or was woken.
-        let slept = found == ASLEEP
-            && shared.compare_exchange::<Plain>(&mut place.seat, word, ASLEEP, WOKEN) == ASLEEP;
-        leave(place);
-        if slept { Some(Woken { worker }) } else { None }
+        let found = shared.compare_exchange::<Permit>(&mut seat, word, AWAKE, INTERRUPTED);
+        let woken = if found == ASLEEP {
+            self.rouse(&mut seat, worker)
+        } else {
+            None
+        };
+        (Interrupted { worker, seat }, woken)
     }
 
-    /// Has one worker look once more for what is to be done, though no queue has anything: a sleeping one, if one sleeps.
-    pub fn interrupt(&self) {
-        // Where one is due already, the worker that hears it looks after this one, too.
-        if self.is_due() {
-            return;
-        }
-        self.interruptions.fetch_add(1, Ordering::SeqCst);
+    /// Has one worker look once more for what is to be done, though no queue has anything: a sleeping one, if one sleeps. The interruption is due until a worker hears it.
+    pub fn interrupt(&self) -> Due {
         let word = self.flag_word(self.workers + 1);
-        let mut place = self.enter();
-        self.table
-            .shared
-            .store::<Interrupt>(&mut place.seat, word, SHOWN);
-        let woken = self.call(&mut place.seat);
-        leave(place);
-        if let Some(woken) = woken {
-            self.ring(woken);
+        let shared = &self.table.shared;
+        let Place { mut seat } = self.enter();
+        // Where one is due already, the worker that hears it looks after this one, too.
+        if shared.load::<LookWhetherDue>(&mut seat, word) != SHOWN {
+            self.interruptions.fetch_add(1, Ordering::SeqCst);
+            shared.store::<Interrupt>(&mut seat, word, SHOWN);
+            if let Some(woken) = self.call(&mut seat) {
+                self.ring(woken);
+            }
         }
+        Due { seat }
     }
 
     /// Whether an interruption is due that no worker has heard.
@@ -47,22 +49,43 @@ impl Bells {
         self.table.shared.peek(self.flag_word(self.workers + 1)) == SHOWN
     }
 
-    /// Has the worker of this number look once more, if there is one.
-    pub fn interrupt_worker(&self, worker: usize) {
+    /// Has the worker of this number look once more. `None` where there is none.
+    pub fn interrupt_worker(&self, worker: usize) -> Option<Interrupted>
+        ensures interrupted { IfSome result (λ interrupted. IsInterrupted self.now worker interrupted) }
+        ensures none { IsNone result ↔ (self.now.workers ≤ worker) }
+    {
         self.interruptions.fetch_add(1, Ordering::SeqCst);
         if worker >= self.workers {
-            return;
+            return None;
         }
-        if let Some(woken) = self.permit(worker) {
+        let (interrupted, woken) = self.permit(worker);
+        if let Some(woken) = woken {
             self.ring(woken);
+        }
+        Some(interrupted)
+    }
+
+    // The next worker was interrupted, too.
+    fn add(&self, all: AllInterrupted, interrupted: Interrupted) -> AllInterrupted
+        requires { IsInterrupted self.now all.next interrupted × (all.next < self.now.workers) }
+        ensures { result.next ≡ all.next + 1 }
+    {
+        AllInterrupted {
+            next: interrupted.worker + 1,
         }
     }
 
     /// Has all workers look once more.
-    pub fn interrupt_all(&self) {
+    pub fn interrupt_all(&self) -> AllInterrupted
+        ensures { result.next ≡ self.now.workers }
+    {
+        let mut all = AllInterrupted { next: 0 };
         for worker in 0..self.workers {
-            self.interrupt_worker(worker);
+            if let Some(interrupted) = self.interrupt_worker(worker) {
+                all = self.add(all, interrupted);
+            }
         }
+        all
     }
 
     /// How many interruptions there were, but for those that found one due.
@@ -71,29 +94,32 @@ impl Bells {
     }
 
     // Takes the interruption that is due, if one is: the worker looks once more.
-    pub(crate) fn hear(&self) -> Option<Heard> {
-        if !self.is_due() {
-            return None;
-        }
+    pub(crate) fn hear(&self) -> Result<NotDue, Heard> {
         let word = self.flag_word(self.workers + 1);
+        let shared = &self.table.shared;
         let mut place = self.enter();
-        self.table
-            .shared
-            .store::<Plain>(&mut place.seat, word, HIDDEN);
-        leave(place);
-        Some(Heard(()))
+        if shared.load::<LookWhetherDue>(&mut place.seat, word) != SHOWN {
+            let Place { seat } = place;
+            return Ok(NotDue { seat });
+        }
+        shared.store::<Hear>(&mut place.seat, word, HIDDEN);
+        Err(Heard { place })
     }
 
     // The worker that has heard the interruption has looked once more, which only one that goes on says.
     pub(crate) fn answer(&self, heard: Heard, claim: &Claim)
         requires { IsClaim self.now claim.now }
     {
-        let Heard(()) = heard;
+        let Heard { place } = heard;
+        let Place { seat } = place;
+        drop(seat);
     }
 
     // The worker that has heard the interruption looks no more, so another one is to.
-    pub(crate) fn pass_on(&self, heard: Heard) {
-        let Heard(()) = heard;
-        self.interrupt();
+    pub(crate) fn pass_on(&self, heard: Heard) -> Due {
+        let Heard { place } = heard;
+        let Place { seat } = place;
+        drop(seat);
+        self.interrupt()
     }
 }

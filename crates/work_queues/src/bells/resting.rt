@@ -1,5 +1,5 @@
 //! The search of a worker that found nothing, and its sleep.
-ghost use Rattle.std.specs.Prelude.{◌≡◌, ◌+◌, ◌*◌, ◌<◌, ◌⊎◌, [], true, false, MatchResult};
+ghost use Rattle.std.specs.Prelude.{◌≡◌, ◌+◌, ◌*◌, ◌<◌, ◌⊎◌, [], true, false, IfSome, MatchResult};
 ghost use Rattle.work_queues.specs.Duties.{IsClaim, IsAsleep};
 ghost use Rattle.work_queues.specs.Sleep.{padding, owing, sleeps};
 
@@ -9,12 +9,12 @@ use std::sync::Wait;
 use std::time::Duration;
 
 impl Bells {
-    /// Begins a search. `Err` has the looks back, where a worker searches already.
-    pub fn begin_search(&self, look: Look) -> Result<Search, Look>
-        requires { look.place.seat.table_id ≡ self.now.table.shared.table_id }
+    /// Begins a search, for what it owes as well. `Err` has looks that it owes, where a worker searches already.
+    pub fn begin_search(&self, owed: Option<Look>) -> Result<Search, Look>
+        requires { IfSome owed (λ look. look.place.seat.table_id ≡ self.now.table.shared.table_id) }
         ensures { MatchResult result (λ search. search.place.seat.table_id ≡ self.now.table.shared.table_id) (λ look. look.place.seat.table_id ≡ self.now.table.shared.table_id) }
     {
-        let Look { mut place } = look;
+        let Look { mut place } = self.look_of(owed);
         let word = self.searcher_word();
         let shared = &self.table.shared;
         if shared.peek(word) != 0 {
@@ -66,11 +66,17 @@ impl Bells {
     }
 
     /// The worker is asleep from here on, and looks at each flag before it sleeps: `sees_something`. `Err` where an interruption was meant for it, which it has heard.
-    pub fn lie_down<R: Wait>(&self, rt: &R, look: Look, claim: &Claim) -> Result<Sleeper, Look>
-        requires { (look.place.seat.table_id ≡ self.now.table.shared.table_id) × IsClaim self.now claim.now }
+    pub fn lie_down<R: Wait>(
+        &self,
+        rt: &R,
+        owed: Option<Look>,
+        claim: &Claim,
+    ) -> Result<Sleeper, Look>
+        requires owed { IfSome owed (λ look. look.place.seat.table_id ≡ self.now.table.shared.table_id) }
+        requires claim { IsClaim self.now claim.now }
         ensures { MatchResult result (λ sleeper. IsAsleep self.now sleeper × (sleeper.place.seat.me ≡ (owing sleeper.place.seat.me.0, sleeper.place.seat.me.1))) (λ look. look.place.seat.table_id ≡ self.now.table.shared.table_id) }
     {
-        let Look { mut place } = look;
+        let Look { mut place } = self.look_of(owed);
         if !self.count(rt, &mut place.seat) {
             return Err(Look { place });
         }
@@ -86,7 +92,7 @@ impl Bells {
     // The worker is awake, and counts as no sleeper. It looks once more.
     fn rise(&self, mut place: Place, worker: usize) -> Look
         requires at { (place.seat.table_id ≡ self.now.table.shared.table_id) × (worker < self.now.workers) }
-        requires seat { (place.seat.me.1 ≡ []) × (place.seat.me.0.right ≡ 0) × (place.seat.me.0.value ≡ 0) × (place.seat.me.0.searching ≡ 0) }
+        requires seat { (place.seat.me.1 ≡ []) × (place.seat.me.0.right ≡ 0) × (place.seat.me.0.value ≡ 0) × (place.seat.me.0.searching ≡ 0) × (place.seat.me.0.interruption ≡ 0) × (place.seat.me.0.interrupted ≡ 0) }
         requires asleep { (place.seat.me.0.asleep ≡ 1) ⊎ (place.seat.me.0.asleep ≡ padding * (self.now.workers + 2 + worker) + 1) }
         ensures { result.place.seat.table_id ≡ self.now.table.shared.table_id }
     {

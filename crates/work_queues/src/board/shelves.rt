@@ -8,7 +8,7 @@ ghost use Rattle.work_queues.specs.Sleep.{padding};
 ghost use Rattle.work_queues.specs.Board.{room, HasQueue};
 ghost use Rattle.work_queues.specs.Shelf.{IsShelved};
 
-use super::{Board, LOCKED, UNLOCKED, Visit};
+use super::{Board, LOCKED, UNLOCKED, Visit, Visited};
 use crate::bells::{Bells, PADDING, Woken};
 use crate::queue::Queue;
 use crate::rule::{Lock, Sit, Unlock};
@@ -72,8 +72,14 @@ impl<T, A: Allocator> Board<T, A> {
     }
 
     /// Puts an item at the back of a queue, and answers the worker that is to be woken. `Err` hands the item back, where the queue was full and there was no memory for more.
-    pub fn push<R: Wait>(&self, rt: &R, queue: usize, item: T) -> (Result<(), T>, Option<Woken>)
+    pub fn push<R: Wait>(
+        &self,
+        rt: &R,
+        queue: usize,
+        item: T,
+    ) -> (Result<Visited, T>, Option<Woken>)
         requires { queue ≤ (arc_value self.now.bells).workers }
+        ensures queue { IfOk result.0 (λ visited. visited.queue ≡ queue) }
         ensures refused { IfErr result.0 (λ back. back ≡ item) }
         ensures woken { IfSome result.1 (λ woken. woken.worker < (arc_value self.now.bells).workers) }
     {
@@ -81,8 +87,11 @@ impl<T, A: Allocator> Board<T, A> {
         let held = visit.seat.slot_mut(&self.table.shared, queue);
         let pushed = held.push(item);
         let woken = held.publish(&self.bells);
-        self.unlock(visit, queue);
-        (pushed, woken)
+        let visited = self.unlock(visit, queue);
+        match pushed {
+            Ok(()) => (Ok(visited), woken),
+            Err(back) => (Err(back), woken),
+        }
     }
 
     /// Takes the item at the front of a queue, if it has one, and the worker that is to be woken for what is left.
@@ -122,8 +131,9 @@ impl<T, A: Allocator> Board<T, A> {
         rt: &R,
         queue: usize,
         batch: &mut VecDeque<T, A>,
-    ) -> (Result<(), AllocError>, Option<Woken>)
+    ) -> (Result<Visited, AllocError>, Option<Woken>)
         requires { queue ≤ (arc_value self.now.bells).workers }
+        ensures queue { IfOk result.0 (λ visited. visited.queue ≡ queue) }
         ensures all { OnOk result.0 (batch.new.items ≡ []) }
         ensures woken { IfSome result.1 (λ woken. woken.worker < (arc_value self.now.bells).workers) }
     {
@@ -131,8 +141,11 @@ impl<T, A: Allocator> Board<T, A> {
         let held = visit.seat.slot_mut(&self.table.shared, queue);
         let put = held.put_all(batch);
         let woken = held.publish(&self.bells);
-        self.unlock(visit, queue);
-        (put, woken)
+        let visited = self.unlock(visit, queue);
+        match put {
+            Ok(()) => (Ok(visited), woken),
+            Err(refused) => (Err(refused), woken),
+        }
     }
 
     // `None` where another thread has the queue.
@@ -165,15 +178,17 @@ impl<T, A: Allocator> Board<T, A> {
     }
 
     // Gives the queue back, whose flag shows whether it has items.
-    pub(super) fn unlock(&self, visit: Visit<T, A>, queue: usize)
+    pub(super) fn unlock(&self, visit: Visit<T, A>, queue: usize) -> Visited
         requires id { visit.seat.table_id ≡ self.now.table.shared.table_id }
         requires queue { queue ≤ (arc_value self.now.bells).workers }
         requires held { (held : _) × HasQueue queue visit.seat.me held × IsShelved (arc_value self.now.bells).table.shared.table_id queue held }
+        ensures { result.queue ≡ queue }
     {
         let Visit { mut seat } = visit;
         self.table
             .shared
             .store::<Unlock>(&mut seat, PADDING * queue, UNLOCKED);
         drop(seat);
+        Visited { queue }
     }
 }

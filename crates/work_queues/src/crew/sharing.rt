@@ -1,27 +1,33 @@
 //! What any thread does with the queues of a crew: room for one item more, and what the queues show.
-ghost use Rattle.std.specs.Prelude.{◌≡◌, IfOk};
+ghost use Rattle.std.specs.Prelude.{◌≡◌, ◌+◌, IfOk, IfSome, min};
+ghost use Rattle.std.specs.Arc.{arc_value};
+ghost use Rattle.work_queues.specs.Duties.{SawNothing};
 ghost use Rattle.work_queues.specs.Rooms.{HasRoom};
 
 use super::Crew;
-use crate::board::Reserved;
+use crate::bells::NothingShown;
+use crate::board::{AllVisited, Reserved, Visited};
 use std::alloc::{AllocError, Allocator};
 use std::sync::Wait;
 
 impl<T, A: Allocator> Crew<T, A> {
     /// Has room for one item more in a worker's queue, or, where there is no worker of this number, in the queue for what comes from outside. No other call reaches that queue until `put` or `release`, so do little in between, and ask nothing of this crew. An error says that there was no memory.
     pub fn reserve<R: Wait>(&self, rt: &R, worker: usize) -> Result<Reserved<T, A>, AllocError>
-        ensures { IfOk result (λ reserved. HasRoom self.now.board reserved) }
+        ensures room { IfOk result (λ reserved. HasRoom self.now.board reserved) }
+        ensures queue { IfOk result (λ reserved. reserved.queue ≡ min worker (arc_value self.now.bells).workers) }
     {
         let queue = worker.min(self.board.workers());
         self.board.reserve(rt, queue)
     }
 
     /// Puts an item where there is room for it, at the back of that queue, and wakes a worker if one sleeps.
-    pub fn put(&self, reserved: Reserved<T, A>, item: T)
+    pub fn put(&self, reserved: Reserved<T, A>, item: T) -> Visited
         requires { HasRoom self.now.board reserved }
+        ensures { result.queue ≡ reserved.queue }
     {
-        let woken = self.board.put(reserved, item);
+        let (visited, woken) = self.board.put(reserved, item);
         self.ring(woken);
+        visited
     }
 
     /// Gives room back to which nothing came.
@@ -32,11 +38,10 @@ impl<T, A: Allocator> Crew<T, A> {
     }
 
     /// Waits at each queue until no thread that had reserved room there before has it any more.
-    pub fn pass<R: Wait>(&self, rt: &R) {
-        for queue in 0..self.board.workers() + 1 {
-            // A count takes the lock, which is all that is wanted here.
-            self.board.len(rt, queue);
-        }
+    pub fn pass<R: Wait>(&self, rt: &R) -> AllVisited
+        ensures { result.next ≡ (arc_value self.now.bells).workers + 1 }
+    {
+        self.board.visit_all(rt)
     }
 
     /// How many items the queues have, each counted while it is locked: none of those in the hands of workers.
@@ -48,13 +53,10 @@ impl<T, A: Allocator> Crew<T, A> {
         items
     }
 
-    /// Whether a queue shows an item. It takes no lock.
-    pub fn shows_any(&self) -> bool {
-        for queue in 0..self.board.workers() + 1 {
-            if !self.board.is_empty(queue) {
-                return true;
-            }
-        }
-        false
+    /// Looks whether a queue shows an item. `None` where one does. It takes no lock.
+    pub fn shows_none(&self) -> Option<NothingShown>
+        ensures { IfSome result (λ none. SawNothing (arc_value self.now.bells) none) }
+    {
+        self.bells.shows_none()
     }
 }

@@ -1,33 +1,19 @@
-//! The acts that the steps ask for. Each uses its position up, and leaves the one after it.
-use core::mem::forget;
-use core::task::Waker;
+//! The acts that the steps ask for. Each uses its position up, makes the step after it, and leaves what that answers.
+use core::{future::Future, mem::replace, task::Waker};
 
-use super::at::At;
-use super::steps::*;
-use super::{abort, Finally};
-use crate::body::{Header, Outcome};
-use crate::schedule::ScheduleInfo;
+use super::{abort, at::*, steps::*, Finally};
+use crate::{body::Header, body::Outcome, schedule::ScheduleInfo};
 
 /// Calls foreign code whose panic cannot be undone: it ends the process.
-#[inline]
 pub(crate) fn or_abort<A>(act: impl FnOnce() -> A) -> A {
-    let bomb = Finally::new(|| -> () { abort() });
+    let bomb = Finally::new((), |()| abort());
     let answer = act();
-    forget(bomb);
+    bomb.into_value();
     answer
-}
-
-/// Wakes the awaiter that was taken.
-pub(crate) fn wake_taken(taken: Option<Waker>) {
-    match taken {
-        Some(awaiter) => or_abort(|| awaiter.wake()),
-        None => abort(),
-    }
 }
 
 impl<P, N> At<P, N> {
     /// What all handles of the task see.
-    #[inline]
     pub(crate) fn header(&self) -> &Header {
         // SAFETY: a handle keeps the allocation, which begins with its header.
         unsafe { self.task.cast::<Header>().as_ref() }
@@ -38,209 +24,178 @@ impl<P, N> At<P, N> {
     /// # Safety
     ///
     /// The cell has given the place to this handle.
-    #[inline]
     unsafe fn replace_awaiter(&self, awaiter: Option<Waker>) -> Option<Waker> {
-        core::mem::replace(&mut *self.header().awaiter.get(), awaiter)
+        replace(&mut *self.header().awaiter.get(), awaiter)
+    }
+
+    /// The place of the output.
+    ///
+    /// # Safety
+    ///
+    /// `T` is the type of the task's output.
+    unsafe fn output<T>(&self) -> *mut Outcome<T> {
+        (self.header().methods.output)(self.task).cast()
     }
 
     /// Calls the schedule function with the Runnable that this party hands over.
-    #[inline]
     fn call_schedule(&self, woken_while_running: bool) {
         // SAFETY: there is a Runnable, which goes to the schedule function; the caller keeps that until it has returned.
         unsafe { (self.header().methods.schedule)(self.task, ScheduleInfo { woken_while_running }) }
     }
 }
 
-impl<N> At<DropsFuture, N> {
-    /// Drops the future.
-    #[inline]
-    pub(crate) fn drop_future(self) -> At<N> {
-        // SAFETY: the cell has given the future to this handle, and asks for its drop once.
-        or_abort(|| unsafe { (self.header().methods.drop_future)(self.task) });
-        self.done()
+/// Drops the future.
+pub(crate) fn drop_future<N: Step>(at: At<DropsFuture, N>) -> N::Then {
+    // SAFETY: the cell has given the future to this handle, and asks for its drop once.
+    or_abort(|| unsafe { (at.header().methods.drop_future)(at.task) });
+    at.done()
+}
+
+/// Drops the future, and stores what the task ends with in its place.
+///
+/// # Safety
+///
+/// The place is that of the task's future, of this type, and of its output.
+pub(crate) unsafe fn store_output<F: Future, N: Step>(
+    at: At<StoresOutput, N>,
+    place: *mut F,
+    outcome: Outcome<F::Output>,
+) -> N::Then {
+    or_abort(|| place.drop_in_place());
+    place.cast::<Outcome<F::Output>>().write(outcome);
+    at.done()
+}
+
+/// Drops the output that nobody will claim.
+///
+/// # Safety
+///
+/// The place is that of the task's output.
+#[inline(always)]
+pub(crate) unsafe fn drop_output<T, N: Step>(at: At<DropsOutput, N>, place: *mut Outcome<T>) -> N::Then {
+    or_abort(|| place.drop_in_place());
+    at.done()
+}
+
+/// Takes out the output that nobody will claim, goes on, and drops it last, where its drop may panic.
+///
+/// # Safety
+///
+/// `T` is the type of the task's output.
+pub(crate) unsafe fn drop_unclaimed<T>(at: At<DropsUnclaimed, DetachDropped>) {
+    let output = at.output::<T>().read();
+    at.done().finish();
+    drop(output);
+}
+
+/// Takes the output out.
+///
+/// # Safety
+///
+/// `T` is the type of the task's output.
+pub(crate) unsafe fn take_output<T, N: Step>(at: At<TakesOutput, N>) -> (Outcome<T>, N::Then) {
+    (at.output::<T>().read(), at.done())
+}
+
+/// Empties the awaiter's place.
+pub(crate) fn take_awaiter<N: Step>(at: At<TakesAwaiter, N>) -> (Option<Waker>, N::Then) {
+    // SAFETY: the cell has given the awaiter's place to this handle.
+    (unsafe { at.replace_awaiter(None) }, at.done())
+}
+
+/// Wakes the awaiter that was taken, by a handle that is gone.
+pub(crate) fn wake_taken(taken: Option<Waker>) {
+    match taken {
+        Some(awaiter) => or_abort(|| awaiter.wake()),
+        None => abort(),
     }
 }
 
-impl At<StoresOutput> {
-    /// Stores what the task ends with.
-    ///
-    /// # Safety
-    ///
-    /// `T` is the type of the task's output.
-    #[inline]
-    pub(crate) unsafe fn store<T>(self, outcome: Outcome<T>) -> At<Completes> {
-        let place = (self.header().methods.output)(self.task);
-        place.cast::<Outcome<T>>().as_ptr().write(outcome);
-        At::stands(self.task)
-    }
+/// Wakes the awaiter that was taken.
+pub(crate) fn wake_awaiter<N: Step>(at: At<WakesAwaiter, N>, taken: Option<Waker>) -> N::Then {
+    wake_taken(taken);
+    at.done()
 }
 
-impl<P, N> At<P, N> {
-    /// Moves the output out.
-    ///
-    /// # Safety
-    ///
-    /// `T` is the type of the task's output, and the cell has given it to this handle.
-    #[inline]
-    unsafe fn output<T>(&self) -> Outcome<T> {
-        let place = (self.header().methods.output)(self.task);
-        place.cast::<Outcome<T>>().as_ptr().read()
-    }
-}
-
-impl<N> At<DropsOutput, N> {
-    /// Drops the output that nobody will claim.
-    ///
-    /// # Safety
-    ///
-    /// `T` is the type of the task's output.
-    pub(crate) unsafe fn drop_output<T>(self) -> At<N> {
-        or_abort(|| drop(self.output::<T>()));
-        self.done()
-    }
-}
-
-impl<N> At<TakesOutput, N> {
-    /// Takes the output out.
-    ///
-    /// # Safety
-    ///
-    /// `T` is the type of the task's output.
-    #[inline]
-    pub(crate) unsafe fn take_output<T>(self) -> (Outcome<T>, At<N>) {
-        (self.output(), self.done())
-    }
-}
-
-impl At<DropsUnclaimed, DetachDropped> {
-    /// Takes the output out and drops it, and goes on with the detach, also where the drop panics.
-    ///
-    /// # Safety
-    ///
-    /// `T` is the type of the task's output.
-    pub(crate) unsafe fn drop_output<T>(self) {
-        let outcome = self.output::<T>();
-        let _end = Finally::new(|| self.done().end().finish());
-        drop(outcome);
-    }
-}
-
-impl<N> At<TakesAwaiter, N> {
-    /// Empties the awaiter's place.
-    #[inline]
-    pub(crate) fn take(self) -> (Option<Waker>, At<N>) {
-        // SAFETY: the cell has given the awaiter's place to this handle.
-        (unsafe { self.replace_awaiter(None) }, self.done())
-    }
-}
-
-impl<N> At<WakesAwaiter, N> {
-    /// Wakes the awaiter that was taken.
-    pub(crate) fn wake(self, taken: Option<Waker>) -> At<N> {
-        wake_taken(taken);
-        self.done()
-    }
-}
-
-impl<W, D> At<WakesOther, (W, D)> {
-    /// Wakes the awaiter that was taken, or drops it where its wake would wake the caller.
-    pub(crate) fn wake(self, taken: Option<Waker>, caller: &Waker) -> Result<At<W>, At<D>> {
-        match taken {
-            Some(awaiter) if awaiter.will_wake(caller) => {
-                or_abort(|| drop(awaiter));
-                Err(At::stands(self.task))
-            }
-            Some(awaiter) => {
-                or_abort(|| awaiter.wake());
-                Ok(At::stands(self.task))
-            }
-            None => abort(),
+/// Wakes the awaiter that was taken, or drops it where its wake would wake the caller.
+pub(crate) fn wake_other<W: Step, D: Step<Then = W::Then>>(
+    at: At<WakesOther, (W, D)>,
+    taken: Option<Waker>,
+    caller: &Waker,
+) -> W::Then {
+    match taken {
+        Some(awaiter) if awaiter.will_wake(caller) => {
+            or_abort(|| drop(awaiter));
+            D::step(At::stands(at.task))
         }
+        taken => wake_awaiter(At::<_, W>::stands(at.task), taken),
     }
 }
 
-impl<N> At<Clones, N> {
-    /// Clones the caller's awaiter.
-    #[inline]
-    pub(crate) fn clone(self, caller: &Waker) -> (Waker, At<N>) {
-        (or_abort(|| caller.clone()), self.done())
-    }
+/// Clones the caller's awaiter.
+pub(crate) fn clone_caller<N: Step>(at: At<Clones, N>, caller: &Waker) -> (Waker, N::Then) {
+    (or_abort(|| caller.clone()), at.done())
 }
 
-impl<N> At<StoresAwaiter, N> {
-    /// Puts the clone into the awaiter's place, and drops what lay there.
-    #[inline]
-    pub(crate) fn store(self, clone: Waker) -> At<N> {
-        // SAFETY: the cell has given the awaiter's place to this handle.
-        let old = unsafe { self.replace_awaiter(Some(clone)) };
-        or_abort(|| drop(old));
-        self.done()
-    }
+/// Puts the clone into the awaiter's place, and drops what lay there.
+#[inline(always)]
+pub(crate) fn store_awaiter<N: Step>(at: At<StoresAwaiter, N>, clone: Waker) -> N::Then {
+    // SAFETY: the cell has given the awaiter's place to this handle.
+    let old = unsafe { at.replace_awaiter(Some(clone)) };
+    or_abort(|| drop(old));
+    at.done()
 }
 
-impl<N> At<WakesCaller, N> {
-    /// Wakes who polls, and drops the clone.
-    pub(crate) fn wake(self, caller: &Waker, clone: Waker) -> At<N> {
-        or_abort(|| {
-            caller.wake_by_ref();
-            drop(clone);
-        });
-        self.done()
-    }
+/// Wakes who polls, and drops the clone.
+pub(crate) fn wake_caller<N: Step>(at: At<WakesCaller, N>, caller: &Waker, clone: Waker) -> N::Then {
+    or_abort(|| caller.wake_by_ref());
+    or_abort(|| drop(clone));
+    at.done()
 }
 
-impl<N> At<Delivers, N> {
-    /// Hands the Runnable over, and then goes on, also where the schedule function panics.
-    #[inline]
-    pub(crate) fn hand_over<A>(self, then: impl FnOnce(At<N>) -> A) -> A {
-        let then = Finally::new(|| then(At::stands(self.task)));
-        self.call_schedule(false);
-        then.now()
-    }
+/// Hands the Runnable over. Where the schedule function panics, what comes then is done in the panic.
+pub(crate) fn deliver<N: Step>(at: At<Delivers, N>, in_panic: impl FnOnce(N::Then)) -> N::Then {
+    let rest = Finally::new(At::stands(at.task), |rest: At<Delivers, N>| in_panic(rest.done()));
+    at.call_schedule(false);
+    rest.into_value().done()
 }
 
-impl<const WOKEN: bool> At<HandsOn<WOKEN>> {
-    /// Hands the Runnable over, by a hold that keeps the schedule function until it has returned, unless there is nothing to keep. Whether the task was woken while it ran.
-    #[inline]
-    pub(crate) fn hand_over(self) -> bool {
-        let _hold = self.header().methods.keeps_schedule.then(|| self.lent().hold());
-        self.call_schedule(WOKEN);
-        WOKEN
-    }
+/// Hands the Runnable over, by a hold that keeps the schedule function until it has returned, unless there is nothing to keep. Whether the task was woken while it ran.
+pub(crate) fn hand_on<const WOKEN: bool>(at: At<HandsOn<WOKEN>>) -> bool {
+    let hold = at.header().methods.keeps_schedule.then(|| At::<Lent>::stands(at.task).choose::<Holds>());
+    let _release = hold.map(|hold| Finally::new(hold, |hold| Held::step(hold).finish()));
+    at.call_schedule(WOKEN);
+    WOKEN
 }
 
-impl<const TOOK: bool> At<Empties, Emptied<TOOK>> {
-    /// Drops an awaiter that is left.
-    pub(crate) fn empty(self) -> At<Emptied<TOOK>> {
-        // SAFETY: this is the last handle.
-        let left = unsafe { self.replace_awaiter(None) };
-        or_abort(|| drop(left));
-        self.done()
-    }
+/// Drops an awaiter that is left, and then all else, once nobody holds it.
+#[inline(never)]
+pub(crate) fn empty<N: Step<Then = End>>(at: At<Empties, N>) {
+    // SAFETY: this is the last handle.
+    let left = unsafe { at.replace_awaiter(None) };
+    or_abort(|| drop(left));
+    at.done().finish();
 }
 
 impl End {
     /// Drops the metadata and the schedule function and frees the task's allocation, if the cell has ended.
     #[inline]
     pub(crate) fn finish(self) {
-        match self {
-            End::Held(At { .. }) => {}
+        if let End::Ended(at) = self {
             // SAFETY: the cell has ended, and tells so once.
-            End::Ended(at) => unsafe { (at.header().methods.destroy)(at.task) },
+            unsafe { (at.header().methods.destroy)(at.task) }
         }
     }
 }
 
 impl Left {
     /// Does what is left to do by a handle that was given up.
-    #[inline]
+    #[inline(always)]
     pub(crate) fn finish(self) {
         match self {
-            Left::Nothing(At { .. }) => {}
-            Left::Last(at) => at.empty().end().finish(),
-            Left::Goes(at) => {
-                at.hand_over();
-            }
+            Left::Nothing => {}
+            Left::Last(at) => empty(at),
+            Left::Goes(at) => drop(hand_on(at)),
         }
     }
 }

@@ -17,7 +17,7 @@ pub fn wake_and_run_by_slot<R: Wait + Drop + Copy, B: Allocator + Copy>(
 ) -> Result<(), Failure> {
     let slot = Slot::new(rt, alloc);
     let (runnable, task) = slot.spawn(Pending)?;
-    let waker = runnable.waker().ok_or(AllocError)?;
+    let waker = runnable.waker().ok().ok_or(AllocError)?;
     runnable.run();
     let done = wake_and_take(&slot, &waker, count);
     drop(task);
@@ -210,7 +210,7 @@ fn clone_often<R: Wait + Drop + Copy, B: Allocator + Copy>(
     count: u64,
 ) -> Result<(), Failure> {
     for _ in 0..count {
-        let Some(clone) = waker.try_clone() else {
+        let Ok(clone) = waker.try_clone() else {
             return Err(Failure::Unexpected);
         };
         drop(clone);

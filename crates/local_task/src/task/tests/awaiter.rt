@@ -107,9 +107,11 @@ impl Drop for Awaiter<'_> {
 }
 
 impl<'c> Wake for Awaiter<'c> {
-    ghost woken = { λ awaiter. ⊤ };
+    type Record = ();
 
-    ghost woken_by_ref = { λ awaiter. ⊤ };
+    ghost woken = { λ _ _. ⊤ };
+
+    ghost woken_by_ref = { λ _ _. ⊤ };
 
     ghost cloned = { λ awaiter clone. ⊤ };
 
@@ -126,16 +128,16 @@ impl<'c> Wake for Awaiter<'c> {
         });
     }
 
-    fn try_clone(&self) -> Option<Awaiter<'c>> {
+    fn try_clone(&self) -> Result<Awaiter<'c>, ()> {
         if self.refuses {
             self.counters.add(Counts {
                 refusals: 1,
                 ..NONE
             });
-            return None;
+            return Err(());
         }
         self.counters.add(Counts { clones: 1, ..NONE });
-        Some(Awaiter {
+        Ok(Awaiter {
             number: self.number,
             refuses: false,
             counters: self.counters,

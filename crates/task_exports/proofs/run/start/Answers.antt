@@ -1,4 +1,4 @@
-use Rattle.task_cell.proofs.Vocabulary.{subst, true, false, Some, IfSome, TakesUp}
+use Rattle.task_cell.proofs.Vocabulary.{subst, true, false, Some, IfSome, TakesUp, None}
 use Rattle.task_exports.specs.Answers.{start_missed, polls, finds_closed}
 use Rattle.task_exports.proofs.Runs.{taken_up}
 use Rattle.task_exports.proofs.Live.{lives_on}

@@ -1,4 +1,4 @@
-use Rattle.task_cell.proofs.Vocabulary.{[], ◌∷◌, ◌∙◌, sym, Ended, HandOver, act}
+use Rattle.task_cell.proofs.Vocabulary.{[], ◌∷◌, ◌∙◌, sym, subst, Did, EndCall, Ended, HandOver, act, as_ended}
 use Rattle.task_steps.specs.Standing.{as_runnable}
 use Rattle.task_cell.proofs.Moved.{stands}
 use Rattle.task_cell.proofs.WakerMoves.{fresh_stands}
@@ -11,12 +11,15 @@ hand_over-runnable-requires-clause-party c = let s = c.requires.party in (s.0, s
 pub end-requires-clause-party : goal.end-requires-clause-party
 end-requires-clause-party c = let s = c.requires.party in (s.1, Ended, stands _ _ _ _ _ (handed_on _ _ s.0 s.1 s.3 s.4 c.hand_over-runnable.ensures.path))
 
-pub let_go-requires : goal.let_go-requires
-let_go-requires c = let s = c.requires.party in stands _ _ _ _ _ (and_ends (act HandOver ∷ []) s.1 _ _ _ (handed_on _ _ s.0 s.1 s.3 s.4 c.hand_over-runnable.ensures.path) c.end.ensures)
+pub invariant_of-ended : goal.invariant_of-ended
+invariant_of-ended c = let s = c.requires.party in record { ended = stands _ _ _ _ _ (and_ends (act HandOver ∷ []) s.1 _ _ _ (handed_on _ _ s.0 s.1 s.3 s.4 c.hand_over-runnable.ensures.path) c.end.ensures) }
 
-pub returns : goal.returns
-returns c = let n = c.hand_over-runnable.ensures.runnable in let m = c.into_maybe.ensures in (
+pub returns-clause-runnable : goal.returns-clause-runnable
+returns-clause-runnable c = let n = c.hand_over-runnable.ensures.runnable in let m = c.into_maybe.ensures in (
   (m.is_there, n.cell ∙ (c.requires.cell.0 ∙ sym m.cell.0), new_limit _ _ _ n ∙ (c.requires.cell.1 ∙ sym m.limit)),
   m.cell,
   fresh_stands as_runnable _ c.hand_over-runnable.result n.is,
 )
+
+pub returns-clause-ended : goal.returns-clause-ended
+returns-clause-ended c = let s = c.requires.party in and_ends (act HandOver ∷ []) s.1 _ _ _ (handed_on _ _ s.0 s.1 s.3 s.4 c.hand_over-runnable.ensures.path) c.end.ensures

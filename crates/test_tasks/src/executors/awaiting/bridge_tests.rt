@@ -85,7 +85,7 @@ fn bridged<R: Wait + Abort + Drop + Copy>(
 
 // Runs: what the run answers.
 fn run<R: Wait + Drop + Copy>(runnable: Work<R>) -> bool {
-    runnable.run()
+    runnable.run().0
 }
 
 // Lets the kit wait for a future.

@@ -237,7 +237,7 @@ impl<R: Wait + Drop + Copy> Line<R> {
 
     // Keeps a clone of the waker of a number, and drops the one that was there: whether there is a clone.
     fn keep_waker<'x>(&'x self, number: usize, waker: &LineWaker<'x, R>) -> bool {
-        let Some(clone) = waker.try_clone() else {
+        let Ok(clone) = waker.try_clone() else {
             return false;
         };
         let kept = Some(clone.with_around(()));

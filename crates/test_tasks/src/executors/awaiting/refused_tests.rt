@@ -16,9 +16,11 @@ pub struct OnlyAwaiter<R: Wait + Drop + Copy> {
 }
 
 impl<R: Wait + Drop + Copy> Wake for OnlyAwaiter<R> {
-    ghost woken = { λ _. ⊤ };
+    type Record = ();
 
-    ghost woken_by_ref = { λ _. ⊤ };
+    ghost woken = { λ _ _. ⊤ };
+
+    ghost woken_by_ref = { λ _ _. ⊤ };
 
     ghost cloned = { λ _ _. ⊤ };
 
@@ -32,10 +34,12 @@ impl<R: Wait + Drop + Copy> Wake for OnlyAwaiter<R> {
         self.mailbox.post(self.number);
     }
 
-    fn try_clone(&self) -> Option<OnlyAwaiter<R>> {
-        let mailbox = Arc::try_clone(&self.mailbox).ok()?;
+    fn try_clone(&self) -> Result<OnlyAwaiter<R>, ()> {
+        let Ok(mailbox) = Arc::try_clone(&self.mailbox) else {
+            return Err(());
+        };
         let number = self.number;
-        Some(OnlyAwaiter { mailbox, number })
+        Ok(OnlyAwaiter { mailbox, number })
     }
 
     fn will_wake(&self, _other: &OnlyAwaiter<R>) -> bool {

@@ -128,9 +128,11 @@ impl Drop for RaceAwaiter {
 }
 
 impl Wake for RaceAwaiter {
-    ghost woken = { λ _. ⊤ };
+    type Record = ();
 
-    ghost woken_by_ref = { λ _. ⊤ };
+    ghost woken = { λ _ _. ⊤ };
+
+    ghost woken_by_ref = { λ _ _. ⊤ };
 
     ghost cloned = { λ _ _. ⊤ };
 
@@ -147,16 +149,18 @@ impl Wake for RaceAwaiter {
     }
 
     // It takes some turns, so that a notifier may come between the first look of a poll and its registration.
-    fn try_clone(&self) -> Option<RaceAwaiter> {
+    fn try_clone(&self) -> Result<RaceAwaiter, ()> {
         if let Some(drops) = &self.shared.after {
             drops.wait();
         }
         for _ in 0..self.shared.turns {
             spin_loop();
         }
-        let shared = Arc::try_clone(&self.shared).ok()?;
+        let Ok(shared) = Arc::try_clone(&self.shared) else {
+            return Err(());
+        };
         shared.clones.add_one();
-        Some(RaceAwaiter { shared })
+        Ok(RaceAwaiter { shared })
     }
 
     // Each is woken, so that the count of wakes tells who awaits.

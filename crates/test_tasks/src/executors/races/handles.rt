@@ -13,14 +13,14 @@ pub fn waker_of<'x, R: Wait + Abort + Drop + Copy>(
     runnable: &RaceRunnable<'x, R>,
 ) -> RaceWaker<'x, R> {
     match runnable.waker() {
-        Some(waker) => waker,
-        None => panic!(rt; "the first waker was refused"),
+        Ok(waker) => waker,
+        Err(_) => panic!(rt; "the first waker was refused"),
     }
 }
 
 /// Runs: what the run answers.
 pub fn run<R: Wait + Drop + Copy>(runnable: RaceRunnable<'_, R>) -> bool {
-    runnable.run()
+    runnable.run().0
 }
 
 /// Polls a Task.

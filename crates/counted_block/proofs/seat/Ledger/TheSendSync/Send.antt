@@ -1,10 +1,9 @@
 use denote.RattleType.{RattleType}
 use denote.Param.Send.{IsSend, IsSync, Frees}
 use Rattle.std.specs.declared.alloc.Allocator as Alloc
-use Rattle.atomic_table.specs.declared.shared.TableRule as Table
 use Rattle.counted_block.specs.declared.rule.BlockRule.{Ghosts}
 use Rattle.counted_block.specs.contracts.seat.Ledger.{the_row}
 use Rattle.counted_block.proofs.Sent.{ledger_keyless}
 
-pub send : (S V K P T A : RattleType) (g : Ghosts P.Denot S.Denot V.Denot K.Denot) (g' : Table.Ghosts P.Denot S.Denot V.Denot K.Denot) (h : Alloc.Ghosts A.Denot) → IsSend S → IsSend T → IsSend A → IsSync T → IsSync A → Frees h h.dealloc_token → IsSend (the_row S V K P T A g g' h)
-send S V K P T A g g' h ss s sa y ya f = record { owned = λ d vs. ((λ vss. (tt, ((λ uss. (tt, tt)), tt))), ledger_keyless S T A h f ss s y V.coded.code (g'.holds d.key) g.out d.heap d.id d.value); leaving = λ k w vs. tt }
+pub send : (S W V K P T A : RattleType) (g : Ghosts P.Denot S.Denot W.Denot V.Denot K.Denot) (h : Alloc.Ghosts A.Denot) → IsSend S → IsSend W → IsSend T → IsSend A → IsSync T → IsSync A → Frees h h.dealloc_token → IsSend (the_row S W V K P T A g h)
+send S W V K P T A g h ss sw s sa y ya f = record { owned = λ d vs. ((λ vss. (tt, ((λ uss. (tt, tt)), tt))), ledger_keyless S W T A h f ss sw s y V.coded.code (g.holds d.key) g.out d.heap d.id d.value); leaving = λ k w vs. tt }

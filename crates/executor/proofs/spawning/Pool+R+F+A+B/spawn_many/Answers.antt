@@ -1,7 +1,10 @@
-use Rattle.std.proofs.Common.{◌≡◌, ◌-◌, ◌∙◌, arith, rules, ap, drop, length}
+use Rattle.std.proofs.Common.{◌≡◌, ◌-◌, ◌∙◌, arith, refl, rules, ap, drop, length}
 use Rattle.std.specs.Prelude.{vec_len}
-use Rattle.executor.proofs.Counted.{appends-more, dropped-more}
+use Rattle.executor.proofs.Counted.{appends-more, appends-none, dropped-more}
 use Rattle.executor.proofs.spawning.Pool+R+F+A+B.spawn_many.Goals as goal
+
+pub loop-init : goal.loop-init
+loop-init g c = record { many = omega arith; left = refl; added = appends-none c.reserve.new.self.items; room = search rules }
 
 pub loop-preserved : goal.loop-preserved
 loop-preserved g c =

@@ -116,7 +116,7 @@ fn meets_done(rt: &impl Abort, stage: Stage<u8, u8>, number: usize, wanted: &[Co
         stage,
         has_task: true,
         wakers: 0,
-        awaiter: traits::Wake::try_clone(&stored),
+        awaiter: traits::Wake::try_clone(&stored).ok(),
         forgotten: false,
     };
     stored.go();

@@ -1,3 +1,4 @@
+use Rattle.task_cell.proofs.Vocabulary.{Some, None}
 use Rattle.std.proofs.Common.{[], refl, ◌∙◌}
 use Rattle.task_exports.proofs.Cancelling.{ends_not_there, is_in_hand, is_not_there}
 use Rattle.task_cell.proofs.Moved.{stands}

@@ -1,13 +1,13 @@
+use Rattle.task_cell.proofs.Vocabulary.{work_first}
 use Rattle.std.proofs.Common.{[], ◌∷◌, refl}
 use Rattle.task_exports.proofs.Polling.{claim_dealt}
 use Rattle.task_core.specs.declared.acts.Act.TheVariants.{DropAwaiter}
 use Rattle.task_laws.specs.declared.positions.NotifyingCall.TheVariants.{OfClaim}
 use Rattle.task_steps.specs.Deeds.{act}
-use Rattle.task_steps.specs.Steps.{output_first}
 use Rattle.task_exports.proofs.poll.ClaimDroppedStep.make.Goals as goal
 
 pub note_dropped-requires-clause-party : goal.note_dropped-requires-clause-party
-note_dropped-requires-clause-party c = let s = c.requires.starts in (s.2.1.0, OfClaim s.0, output_first s.1 [], s.2.1.1, refl)
+note_dropped-requires-clause-party c = let s = c.requires.starts in (s.2.1.0, OfClaim s.0, work_first s.1 [], s.2.1.1, refl)
 
 pub returns : goal.returns
 returns c = record { does = λ i z s3. (refl, claim_dealt i s3.1.0 z (act DropAwaiter ∷ []) c.args.party.now c.note_dropped.new.party s3.1.1 c.note_dropped.ensures) }

@@ -1,3 +1,4 @@
+use Rattle.task_cell.proofs.Vocabulary.{Some, None}
 use Rattle.std.proofs.Common.{subst}
 use Rattle.task_cell.specs.PollPaths.{BeginsRegister}
 use Rattle.task_exports.proofs.Registering.{found_notifier, has_begun, stored}

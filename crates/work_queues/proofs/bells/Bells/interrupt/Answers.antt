@@ -1,6 +1,9 @@
 use Rattle.std.proofs.Common.{rules}
-use Rattle.work_queues.proofs.Sleeping.{interrupts}
+use Rattle.work_queues.proofs.Sleeping.{looks_whether_due, interruption_is_due}
 use Rattle.work_queues.proofs.bells.Bells.interrupt.Goals as goal
 
+pub load-requires : goal.load-requires
+load-requires c = (search rules, search rules, looks_whether_due _ _ _ _ _ _)
+
 pub store-requires : goal.store-requires
-store-requires c = (search rules, search rules, interrupts _ _ _ _ _ _ (search rules))
+store-requires c = (search rules, search rules, interruption_is_due _ _ _ _ _ _ (search rules))

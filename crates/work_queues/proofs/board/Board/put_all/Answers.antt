@@ -6,5 +6,5 @@ use Rattle.work_queues.proofs.board.Board.put_all.Goals as goal
 pub slot_mut-held-requires : goal.slot_mut-held-requires
 slot_mut-held-requires g c = (search rules, lends _ _ _ c.lock-visit.ensures.2)
 
-pub unlock-requires-clause-held : goal.unlock-requires-clause-held
-unlock-requires-clause-held g c = shelves_again IsShelved _ _ _ _ c.publish-woken.new.self c.lock-visit.ensures.2 (search rules)
+pub unlock-visited-requires-clause-held : goal.unlock-visited-requires-clause-held
+unlock-visited-requires-clause-held g c = shelves_again IsShelved _ _ _ _ c.publish-woken.new.self c.lock-visit.ensures.2 (search rules)

@@ -9,8 +9,8 @@ slot_mut-held-requires g c = (search rules, lends _ _ _ c.lock-visit.ensures.2)
 pub unlock-requires-clause-held : goal.unlock-requires-clause-held
 unlock-requires-clause-held g c = shelves_again IsShelved _ _ _ _ c.reserve.new.self c.lock-visit.ensures.2 (search rules)
 
-pub returns-in-Ok : goal.returns-in-Ok
-returns-in-Ok g c = (
+pub returns-in-Ok-clause-room : goal.returns-in-Ok-clause-room
+returns-in-Ok-clause-room g c = (
   search rules,
   search rules,
   (shelves_again IsShelved _ _ _ _ c.reserve.new.self c.lock-visit.ensures.2 (search rules)).0,

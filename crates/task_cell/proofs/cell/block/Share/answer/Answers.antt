@@ -9,7 +9,7 @@ take_output-output-requires-clause-party g c = let p = c.args.party.now in let q
 
 pub returns-in-Ok : goal.returns-in-Ok
 returns-in-Ok g c = let p = c.args.party.now in let q = c.look_again.new.party in let w = c.in-Ok.found in let t = c.take_output-output.ensures in
-    answers_output g.A.Wake.cloned g.A.Wake.woken g.A.Wake.woken_by_ref g.A.Wake.compared c.args.awaiter.now w c.hand_out.result t.0 p q c.take_output-output.new.party (seen_again p q (Ok w) c.in-Ok.ensures) t.1 t.2
+    answers_output g.A.Wake.cloned g.A.Wake.woken g.A.Wake.woken_by_ref g.A.Wake.compared c.args.awaiter.now.awaiter.now w c.hand_out.result t.0 p q c.take_output-output.new.party (seen_again p q (Ok w) c.in-Ok.ensures) t.1 t.2
 
 pub returns-then-has_to_wait : goal.returns-then-has_to_wait
 returns-then-has_to_wait g c = let p = c.args.party.now in let q = c.look_again.new.party in let w = c.in-Err.found in let e = sym c.has_to_wait.ensures ∙ c.if-has_to_wait.true in
@@ -22,4 +22,4 @@ answer_closed-requires-clause-party g c = let p = c.args.party.now in let q = c.
 pub returns-else-has_to_wait : goal.returns-else-has_to_wait
 returns-else-has_to_wait g c = let p = c.args.party.now in let q = c.look_again.new.party in let w = c.in-Err.found in let t = c.answer_closed.ensures in
     let s = saw_end w p q (seen_again p q (Err w) c.in-Err.ensures) (sym c.has_to_wait.ensures ∙ c.if-has_to_wait.false) in
-    answers_ended g.A.Wake.cloned g.A.Wake.woken g.A.Wake.woken_by_ref g.A.Wake.compared c.args.awaiter.now w (poll_number (position p)) t.0 p q c.answer_closed.new.party s.0 t.1 s.1 t.2
+    answers_ended g.A.Wake.cloned g.A.Wake.woken g.A.Wake.woken_by_ref g.A.Wake.compared c.args.awaiter.now.awaiter.now w (poll_number (position p)) t.0 p q c.answer_closed.new.party s.0 t.1 s.1 t.2

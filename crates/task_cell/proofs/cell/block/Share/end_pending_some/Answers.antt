@@ -1,4 +1,4 @@
-use Rattle.task_cell.proofs.Vocabulary.{[], future_first, is_closed}
+use Rattle.task_cell.proofs.Vocabulary.{[], is_closed, work_first}
 use Rattle.task_cell.proofs.RunGoes.{may_end, ended_pending, found_closed_meanwhile}
 use Rattle.task_cell.proofs.cell.block.Share.end_pending_some.Goals as goal
 
@@ -12,4 +12,4 @@ pub returns-in-Made-clause-path : goal.returns-in-Made-clause-path
 returns-in-Made-clause-path g c = λ y s. ended_pending _ y c.args.party.now c.give_some.new.party c.in-Made.end s c.in-Made.ensures.seat.0 c.in-Made.ensures.tried
 
 pub returns-in-Ended-clause-path : goal.returns-in-Ended-clause-path
-returns-in-Ended-clause-path g c = λ y s. is_closed (found_closed_meanwhile _ (future_first y []) c.args.party.now c.give_some.new.party _ s c.in-Ended.ensures.seat.0 c.in-Ended.ensures.tried)
+returns-in-Ended-clause-path g c = λ y s. is_closed (found_closed_meanwhile _ (work_first y []) c.args.party.now c.give_some.new.party _ s c.in-Ended.ensures.seat.0 c.in-Ended.ensures.tried)

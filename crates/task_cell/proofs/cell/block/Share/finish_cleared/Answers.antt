@@ -12,4 +12,4 @@ finish-requires-clause-party g c = let w = c.end_closed-found.result in
 
 pub returns : goal.returns
 returns g c = closes_rest _ c.end_closed-found.result c.args.party.now c.end_closed-found.new.party c.finish.new.party c.end_closed-found.ensures
-    (subst (λ b. Rests ((a : g.row.A.Denot) × g.A.Wake.woken a) b c.end_closed-found.new.party c.finish.new.party) c.awaiter.ensures c.finish.ensures)
+    (subst (λ b. Rests ((a : g.row.A.Denot) × (r : g.row.A-Record.Denot) × g.A.Wake.woken a r) b c.end_closed-found.new.party c.finish.new.party) c.awaiter.ensures c.finish.ensures)

@@ -1,4 +1,4 @@
-use Rattle.task_cell.proofs.Vocabulary.{refl, ap, ◌∙◌}
+use Rattle.task_cell.proofs.Vocabulary.{refl}
 use Rattle.task_cell.proofs.Attempts.{may_still, give_still}
 use Rattle.task_cell.proofs.cell.block.Share.give_change_some.Goals as goal
 

@@ -1,4 +1,4 @@
-use Rattle.task_cell.proofs.Vocabulary.{◌≡◌, ◌<◌, HasSeen}
+use Rattle.task_cell.proofs.Vocabulary.{◌≡◌, HasSeen}
 use Rattle.task_cell.specs.Belongs.{IsSame}
 use Rattle.task_cell.proofs.cell.block.Share.give_some.Given as goal
 use Rattle.task_core.specs.Word.{HasRoom}

@@ -1,4 +1,4 @@
-use Rattle.task_cell.proofs.Vocabulary.{sym, refl, ap, ◌∙◌, subst, ◌<◌, State}
+use Rattle.task_cell.proofs.Vocabulary.{sym, refl, ap, ◌∙◌, subst}
 use Rattle.task_cell.proofs.Attempts.{seen_word, seeing_any, may_load, seeing_next, ends_at, ended}
 use Rattle.task_cell.proofs.cell.block.Share.observe.Goals as goal
 use Rattle.task_core.specs.Word.{HasRoom}

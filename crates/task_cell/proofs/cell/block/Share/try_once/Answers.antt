@@ -1,4 +1,4 @@
-use Rattle.task_cell.proofs.Vocabulary.{◌<◌, sym, refl, ap, ◌∙◌, subst, State, number_of}
+use Rattle.task_cell.proofs.Vocabulary.{sym, refl, ap, ◌∙◌, subst, number_of}
 use Rattle.task_cell.proofs.Attempts.{answered, changed_by, counts_made, counts_missed, seeing_first, seeing_missed, may_exchange, may_more}
 use Rattle.task_cell.proofs.cell.block.Share.try_once.Goals as goal
 use Rattle.task_core.specs.Word.{HasRoom}

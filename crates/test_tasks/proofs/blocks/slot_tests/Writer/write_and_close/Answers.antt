@@ -1,5 +1,7 @@
 use Rattle.std.proofs.Common.{◌≡◌, Bool, ◌∷◌, ℕ, List, refl, sym, ap, ◌∙◌}
 use Rattle.atomic_table.specs.Table.{Me, rest}
+use Rattle.counted_block.specs.declared.place.Place.{Place}
+use Rattle.counted_block.specs.declared.place.Place.TheVariants.{First}
 use Rattle.test_tasks.proofs.Staging.{may_take}
 use Rattle.test_tasks.proofs.blocks.slot_tests.Writer.write_and_close.Goals as goal
 
@@ -10,5 +12,5 @@ load-requires c = let seat = c.args.self.seat in let is = c.args.self.seated in 
 -- src/slot_tests.rt:60:10
 pub first_mut-requires : goal.first_mut-requires
 first_mut-requires c =
-    let has : c.exchange-was.new.seat.me.1 ≡ (0, 7) ∷ rest c.load.new.seat.me.1 = ap (λ (me : Me ℕ Bool). me.1) c.exchange-was.ensures.3 in
-    record { block = c.exchange-was.ensures.0 ∙ c.load.ensures.0 ∙ c.args.self.seated.1; taken = (7, has ∙ ap (λ (xs : List (ℕ × ℕ)). (0, 7) ∷ xs) (sym (ap rest has))) }
+    let has : c.swap_first-was.new.seat.me.1 ≡ (0, First 7) ∷ rest c.turn.new.self.me.1 = ap (λ (me : Me (Place ℕ ℕ) Bool). me.1) c.swap_first-was.ensures.3 in
+    record { block = c.swap_first-was.ensures.0 ∙ c.turn.ensures.0 ∙ c.swap_second-second.ensures.0 ∙ c.load.ensures.0 ∙ c.args.self.seated.1; taken = (7, has ∙ ap (λ (xs : List (ℕ × Place ℕ ℕ)). (0, First 7) ∷ xs) (sym (ap rest has))) }

@@ -1,0 +1,17 @@
+use Rattle.task_cell.proofs.Vocabulary.{subst, IfSome, Some, None}
+use Rattle.task_exports.specs.Answers.{Gains, puts_none, puts}
+use Rattle.task_exports.proofs.Along.{along, lent_back}
+use Rattle.task_exports.proofs.waker.gain_at.Goals as goal
+
+pub returns-in-Some-clause-lent : goal.returns-in-Some-clause-lent
+returns-in-Some-clause-lent c = let x = lent_back _ _ _ _ c.take.ensures.0 c.put.ensures.0 c.gain-hand.ensures.lent in ((c.put.ensures.1, x.0), x.1)
+
+pub returns-in-Some-clause-answer : goal.returns-in-Some-clause-answer
+returns-in-Some-clause-answer c = let w = subst (λ o. IfSome o (λ r. Gains c.take.result r.0 r.1)) c.in-Some.is c.gain-hand.ensures.gained in
+    puts _ c.put-in-Some.ensures.1 (along (λ x k. Gains x k c.in-Some.answer) _ _ _ _ c.take.ensures.0 c.put-in-Some.ensures.0 w)
+
+pub returns-in-None-clause-lent : goal.returns-in-None-clause-lent
+returns-in-None-clause-lent c = let x = lent_back _ _ _ _ c.take.ensures.0 c.put.ensures.0 c.gain-hand.ensures.lent in ((c.put.ensures.1, x.0), x.1)
+
+pub returns-in-None-clause-answer : goal.returns-in-None-clause-answer
+returns-in-None-clause-answer c = puts_none c.requires.room

@@ -1,0 +1,100 @@
+//! Handles that cross by their bits, in a register.
+ghost use Rattle.std.specs.Prelude.{◌≡◌, Option, Some, None};
+ghost use Rattle.task_exports.specs.Places.{owned, owned_at, owned_if};
+ghost use Rattle.task_exports.specs.declared.hand.Hand.{Hand};
+
+use crate::hand::Hand;
+use std::marker::Model;
+
+/// A handle by its bits, which are the address of its block: the caller keeps them while an export has the handle, and has it again by what that leaves.
+#[repr(C)]
+pub struct Bits {
+    at: *const u64,
+    pub ghost hand: { Hand },
+}
+
+impl Model for Bits {
+    ghost use Rattle.task_exports.specs.Places.{owned_at};
+
+    ghost also_owns = { λ h. owned_at h.at h.hand };
+}
+
+/// What an export leaves of a handle: all but its bits, which are the caller's still. It has no bytes.
+#[repr(C)]
+pub struct Left {
+    pub ghost hand: { Hand },
+}
+
+impl Model for Left {
+    ghost use Rattle.task_exports.specs.Places.{owned};
+
+    ghost also_owns = { λ h. owned h.hand };
+}
+
+/// A second handle of the same cell, which has the same bits, or none. It has no bytes.
+#[repr(C)]
+pub struct Brought {
+    pub ghost hand: { Option Hand },
+}
+
+impl Model for Brought {
+    ghost use Rattle.task_exports.specs.Places.{owned_if};
+
+    ghost also_owns = { λ h. owned_if h.hand };
+}
+
+/// What an export answers, and leaves.
+#[repr(C)]
+pub struct Answer {
+    pub number: u32,
+    pub left: Left,
+}
+
+/// What an export answers, leaves and brings.
+#[repr(C)]
+pub struct Brings {
+    pub number: u32,
+    pub left: Left,
+    pub brought: Brought,
+}
+
+/// The handle that has these bits.
+pub fn open(h: Bits) -> Hand
+    ensures { result ≡ h.hand }
+{
+    let Bits { at } = h;
+    let mut bits = at;
+    let place = &raw mut bits;
+    unsafe {
+        // The place is taken as a handle's, whose one field with bytes is this pointer.
+        *place = at;
+        (place as *mut Hand).read()
+    }
+}
+
+/// What is left of a handle beside its bits.
+pub fn close(hand: Hand) -> Left
+    ensures { result.hand ≡ hand }
+{
+    let mut bits = 0u64;
+    let place = &raw mut bits as *mut Hand;
+    unsafe { place.write(hand) };
+    Left {}
+}
+
+/// What a second handle is beside its bits.
+pub fn bring(hand: Hand) -> Brought
+    ensures { result.hand ≡ Some hand }
+{
+    let mut bits = 0u64;
+    let place = &raw mut bits as *mut Hand;
+    unsafe { place.write(hand) };
+    Brought {}
+}
+
+/// No second handle.
+pub fn bring_none() -> Brought
+    ensures { result.hand ≡ None }
+{
+    Brought {}
+}

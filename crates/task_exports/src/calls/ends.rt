@@ -1,0 +1,49 @@
+//! How a call ends.
+ghost use Rattle.std.specs.Prelude.{◌≡◌, [], ℕ, Option, IfSome, is_some, true};
+ghost use Rattle.task_cell.specs.Calls.{Did, Stands, StandsWith};
+ghost use Rattle.task_exports.specs.Answers.{IsFull, empties};
+ghost use Rattle.task_exports.specs.Hands.{IsGone};
+ghost use Rattle.task_laws.specs.declared.positions.Answer.{Answer};
+ghost use Rattle.task_laws.specs.declared.positions.Position.TheVariants.{Emptier};
+ghost use Rattle.task_steps.specs.Standing.{as_ended};
+ghost use Rattle.task_steps.specs.Steps.{awaiter_first};
+
+use crate::answers::{DONE, ENDED};
+use crate::caller::Caller;
+use crate::ends::async_task_empty;
+use crate::hand::{Hand, Record};
+use crate::handle::{Handle, take};
+use task_core::Wake;
+
+// The record of a call that has ended: the caller forgets it.
+pub(crate) fn over(h: &mut Handle) -> Record
+    requires there { h.old.there ≡ true }
+    requires gone { IsGone h.old.hand }
+    requires party { Stands as_ended h.old.hand.party }
+    ensures { result.party ≡ h.old.hand.party }
+{
+    let Hand { share, party } = take(h);
+    share.none();
+    Record { party }
+}
+
+// Drops an awaiter that is left, empties the places by the last handle, and frees the memory of a cell that has ended.
+pub(crate) fn empty<A: Wake, C: Caller<A>>(
+    h: &mut Handle,
+    took: bool,
+    caller: &mut C,
+) -> Option<Record>
+    requires handle { IsFull h.old }
+    requires party { (awaiter : Option ℕ) × (answer : Answer) × (y : _) × StandsWith (Emptier awaiter answer) (awaiter_first y []) h.old.hand.party × (is_some awaiter ≡ took) }
+    ensures { IfSome result (λ ended. Did (empties took) as_ended h.old.hand.party ended.party) }
+{
+    drop(caller.take_awaiter());
+    match async_task_empty(h, took) {
+        DONE => Some(over(h)),
+        ENDED => {
+            caller.free();
+            Some(over(h))
+        }
+        _ => None,
+    }
+}

@@ -1,0 +1,12 @@
+//! A look by which a party is told of the interleaving of its task.
+ghost use Rattle.task_steps.specs.Witness.{witnessed};
+
+use crate::table::{TaskPlace, View};
+use atomic_table::Play;
+
+/// It changes nothing, and tells what the rule says of the party that looks.
+pub struct Witnessing;
+
+impl<F, T, A> Play<TaskPlace<F, T, A>, View> for Witnessing {
+    ghost then = { witnessed };
+}

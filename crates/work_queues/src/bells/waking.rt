@@ -1,0 +1,67 @@
+//! The steps that wake a worker which sleeps. Only they make a `Woken`, and only `ring` ends it.
+ghost use Rattle.std.specs.Prelude.{◌≡◌, ◌+◌, ◌*◌, ◌<◌, IfSome, IsNone};
+ghost use Rattle.work_queues.specs.Sleep.{padding, interrupts, left_of, paid};
+
+use super::{ASLEEP, Bells, Seat, WOKEN};
+use crate::watch::{LookAtWorker, Rouse, Wake};
+
+/// A worker that a step has woken, until its thread is.
+pub struct Woken {
+    worker: usize,
+}
+
+impl Woken {
+    /// The number of the worker.
+    pub fn worker(&self) -> usize
+        ensures { result ≡ self.now.worker }
+    {
+        self.worker
+    }
+}
+
+impl Bells {
+    // Wakes this worker, if it is asleep.
+    pub(super) fn wake(&self, seat: &mut Seat, worker: usize) -> Option<Woken>
+        requires { (seat.old.table_id ≡ self.now.table.shared.table_id) × (worker < self.now.workers) × (seat.old.me.0.owes ≡ 1) × (seat.old.me.0.from ≡ worker) }
+        ensures id { seat.new.table_id ≡ seat.old.table_id }
+        ensures woken { IfSome result (λ woken. (woken.worker ≡ worker) × (seat.new.me ≡ (paid seat.old.me.0, seat.old.me.1))) }
+        ensures passed { IsNone result → seat.new.me ≡ (left_of seat.old.me.0 seat.old.me.0.seen (worker + 1), seat.old.me.1) }
+    {
+        let word = self.worker_word(worker);
+        let shared = &self.table.shared;
+        if shared.load::<LookAtWorker>(seat, word) == ASLEEP
+            && shared.compare_exchange::<Wake>(seat, word, ASLEEP, WOKEN) == ASLEEP
+        {
+            return Some(Woken { worker });
+        }
+        None
+    }
+
+    // Wakes this worker for an interruption, if it is asleep. Else it has got up, or was woken.
+    pub(super) fn rouse(&self, seat: &mut Seat, worker: usize) -> Option<Woken>
+        requires { (seat.old.table_id ≡ self.now.table.shared.table_id) × (worker < self.now.workers) }
+        ensures id { seat.new.table_id ≡ seat.old.table_id }
+        ensures woken { IfSome result (λ woken. woken.worker ≡ worker) }
+        ensures roused { seat.new.me ≡ (interrupts seat.old.me.0 (padding * (self.now.workers + 2 + worker)), seat.old.me.1) }
+    {
+        let word = self.worker_word(worker);
+        if self
+            .table
+            .shared
+            .compare_exchange::<Rouse>(seat, word, ASLEEP, WOKEN)
+            == ASLEEP
+        {
+            return Some(Woken { worker });
+        }
+        None
+    }
+
+    /// Wakes the thread of a worker that a step has woken.
+    pub fn ring(&self, woken: Woken)
+        requires { woken.worker < self.now.workers }
+    {
+        let Woken { worker } = woken;
+        let word = self.worker_word(worker);
+        self.table.shared.wake_one(word);
+    }
+}
