@@ -1,8 +1,8 @@
 //! The task of a race: its future, its output, its schedule value, and the surroundings in which its threads find what they act on.
 ghost use Rattle.std.specs.Prelude.{⊤};
 
-use crate::executors::calls;
-use crate::executors::races::awaiter::RaceAwaiter;
+use crate::calls;
+use crate::races::awaiter::RaceAwaiter;
 use async_task::{
     Cancel, Future, ParkedRunnable, ParkedWaker, Poll, Runnable, Schedule, ScheduleInfo, Task,
     TaskWaker, Yields, spawn,

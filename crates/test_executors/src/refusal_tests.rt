@@ -2,7 +2,7 @@
 //! Of what is only tested (docs/PROOFS.md): Memory and limits.
 ghost use Rattle.std.specs.Prelude.{⊤};
 
-use crate::executors::calls;
+use crate::calls;
 use async_task::{
     Builder, Future, Poll, Runnable, Schedule, ScheduleInfo, SpawnError, Task, TaskWaker, Yields,
     spawn,

@@ -1,6 +1,5 @@
 //! How a mailbox, a group, its handles and what comes out of it are shown, and what their errors say.
 use super::refused_tests::{OnlyGroup, push, run};
-use crate::handles::calls::shows;
 use async_task::TaskClosed;
 use executor_parts::kit::{AwaitError, AwaitsRefused};
 use executor_parts::{
@@ -9,9 +8,17 @@ use executor_parts::{
 };
 use std::alloc::{AllocError, Global};
 use std::error::Error;
-use std::io;
 use std::process::Abort;
 use std::sync::Wait;
+use std::{fmt, io};
+
+// Whether a value shows that text. Stops where there is no memory.
+fn shows<R: Abort, T: fmt::Debug>(rt: &R, alloc: Global, value: &T, expected: &str) -> bool {
+    format!(in alloc; "{value:?}")
+        .expect(rt, "refused")
+        .as_str()
+        == expected
+}
 
 // What the `io::Error` of an error says.
 fn io_text<R: Abort, E: Drop>(rt: &R, alloc: Global, error: E) -> String

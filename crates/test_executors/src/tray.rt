@@ -2,7 +2,7 @@
 ghost use Rattle.std.specs.Prelude.{⊤};
 ghost use Rattle.rows_fixtures.specs.Behaviour.{IsPolled};
 
-use crate::executors::calls;
+use crate::calls;
 use async_task::{
     Builder, Cancel, FallibleTask, Future, ParkedRunnable, Poll, Runnable, Schedule, ScheduleInfo,
     Task, TaskPoll, TaskWaker, Yields,

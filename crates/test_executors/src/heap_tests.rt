@@ -1,8 +1,8 @@
 //! Tests over full heaps: the calls that ask for no memory.
 //! Of what is only tested (docs/PROOFS.md): Memory and limits.
 
-use crate::executors::tray::Tray;
-use crate::executors::{calls, tray};
+use crate::tray::Tray;
+use crate::{calls, tray};
 use linked_list_allocator::LocalHeap;
 use rows_fixtures::behaviour::Behaviour;
 use rows_fixtures::counters::{Counters, Counts};

@@ -1,12 +1,17 @@
 //! What the tests begin with, each in a function that stops where there is no memory.
 
-pub use crate::handles::calls::fixture;
 use linked_list_allocator::LocalHeap;
 use rows_fixtures::counters::Counters;
+use rows_fixtures::fixture::Fixture;
 use rows_fixtures::flag::Flag;
 use std::alloc::Global;
 use std::process::Abort;
-use std::sync::Arc;
+use std::sync::{Arc, Wait};
+
+/// Surroundings of a test's own.
+pub fn fixture<R: Wait + Abort + Drop + Copy>(rt: R, alloc: Global) -> Fixture<R> {
+    Fixture::new(rt, alloc).expect(&rt, "refused")
+}
 
 /// Counters at zero.
 pub fn counters<R: Abort + Drop + Copy>(rt: R, alloc: Global) -> Arc<Counters> {

@@ -1,8 +1,8 @@
 //! Calls of the handles of a race, each in a function of its own that is generic in `R` alone: so each is proved once,
 //! and a test that makes it costs little more.
 
-use crate::executors::races::awaiter::RaceAwaiter;
-use crate::executors::races::raced::{RaceCancel, RaceOutput, RaceRunnable, RaceTask, RaceWaker};
+use crate::races::awaiter::RaceAwaiter;
+use crate::races::raced::{RaceCancel, RaceOutput, RaceRunnable, RaceTask, RaceWaker};
 use async_task::{TaskClosed, TaskPoll};
 use std::process::Abort;
 use std::sync::Wait;

@@ -1,8 +1,8 @@
 //! A race of the last waker's drop with the end of a run.
 
-use crate::executors::races::handles;
-use crate::executors::races::raced::RaceSurroundings;
-use crate::executors::races::rounds::{Calls, Rounds, Tally};
+use crate::races::handles;
+use crate::races::raced::RaceSurroundings;
+use crate::races::rounds::{Calls, Rounds, Tally};
 use std::alloc::Global;
 use std::process::Abort;
 use std::sync::Wait;

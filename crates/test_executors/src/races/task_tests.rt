@@ -1,10 +1,10 @@
 //! Races of each call that ends a Task, or awaits its output, with a run and a wake, on three threads.
 ghost use Rattle.std.specs.Prelude.{⊤};
 
-use crate::executors::races::awaiter::RaceAwaiter;
-use crate::executors::races::handles;
-use crate::executors::races::raced::{RaceCancel, RaceOutput, RaceSurroundings, RaceTask};
-use crate::executors::races::rounds::{Calls, Rounds, Tally};
+use crate::races::awaiter::RaceAwaiter;
+use crate::races::handles;
+use crate::races::raced::{RaceCancel, RaceOutput, RaceSurroundings, RaceTask};
+use crate::races::rounds::{Calls, Rounds, Tally};
 use async_task::{TaskClosed, TaskPoll};
 use rows_fixtures::counters::Counter;
 use std::alloc::Global;

@@ -1,5 +1,5 @@
 use Rattle.std.proofs.Common.{length}
-use Rattle.test_tasks.proofs.executors.slot_tests.Slots.drop.Given as goal
+use Rattle.test_executors.proofs.slot_tests.Slots.drop.Given as goal
 
 abbrev pub decreases-loop-parked : goal.decreases-loop-parked
 decreases-loop-parked g l = length l.list.items

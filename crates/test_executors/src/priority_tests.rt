@@ -1,7 +1,7 @@
 //! The heap of priorities and the queue over it: memory that is refused, and what is dropped with a queue. Of what is only tested: the page of
 //! `executor_parts`.
 
-use crate::executors::calls;
+use crate::calls;
 use executor_parts::PriorityHeap;
 use rows_fixtures::behaviour::Behaviour;
 use rows_fixtures::counters::Counts;

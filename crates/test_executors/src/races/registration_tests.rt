@@ -1,9 +1,9 @@
 //! Races of a poll that registers its awaiter with a party that ends the task, and so takes out the awaiter of the poll before.
 
-use crate::executors::races::awaiter::RaceAwaiter;
-use crate::executors::races::handles;
-use crate::executors::races::raced::{RaceOutput, RaceSurroundings, RaceTask};
-use crate::executors::races::rounds::{LEAST_MET, Rounds, Tally};
+use crate::races::awaiter::RaceAwaiter;
+use crate::races::handles;
+use crate::races::raced::{RaceOutput, RaceSurroundings, RaceTask};
+use crate::races::rounds::{LEAST_MET, Rounds, Tally};
 use async_task::{TaskClosed, TaskPoll};
 use std::alloc::Global;
 use std::process::Abort;

@@ -2,7 +2,7 @@
 ghost use Rattle.std.specs.Prelude.{⊤};
 
 use super::number::Nowhere;
-use crate::executors::tray::{HEAP, fill};
+use crate::tray::{HEAP, fill};
 use async_task::{Future, Poll, Runnable, Task, Wake, Yields, spawn};
 use executor_parts::kit::{AwaitError, Awaits, KitAwaiter};
 use futures::executor::block_on;

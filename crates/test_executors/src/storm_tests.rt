@@ -1,7 +1,7 @@
 //! A test of wakes by four threads while a fifth one runs the task.
 //! Of what is only tested (docs/PROOFS.md): Threads.
 
-use crate::executors::calls;
+use crate::calls;
 use rows_fixtures::behaviour::Behaviour;
 use rows_fixtures::counters::{Counter, Counts};
 use rows_fixtures::fixture::Fixture;
