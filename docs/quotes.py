@@ -1,10 +1,10 @@
 #!/usr/bin/env python3
 """quotes.py --check compares the code blocks of README.md and of other pages with the files that they are quoted from, and looks for what pages name:
 the tests of docs/API.md, each name with an underscore on the pages of NAMING, and the kit's logic in README.md. quotes.py FOLDER writes the files below FOLDER as a reader who types
-the blocks of README.md and docs/GUIDE.md in would, to try them in another repository.
+the blocks of README.md in would, to try them in another repository.
 
-A block between fences is quoted from the file that the last path in backticks before it names. In README.md and docs/GUIDE.md all blocks of a file, in
-their order, with a blank line between two, are the whole file. Elsewhere a block is lines of it that stand together, moved to the left. Of crates.txt a
+A block between fences is quoted from the file that the last path in backticks before it names. In README.md all blocks of a file, in their order, with
+a blank line between two, are the whole file. Elsewhere a block is lines of it that stand together, moved to the left. Of crates.txt a
 block is some lines. What is indented by four instead, as commands are, is no quotation.
 """
 import pathlib
@@ -16,10 +16,10 @@ import textwrap
 HERE = pathlib.Path(__file__).resolve().parent.parent
 PATH = re.compile(r"`(crates/[\w./]+|crates\.txt)`")
 FENCED = re.compile(r"^```\w*\n(.*?)^```\n", re.MULTILINE | re.DOTALL)
-WHOLE = ("README.md", "docs/GUIDE.md")
+WHOLE = ("README.md",)
 # crates with a page of their own, which is looked at as the other pages are
 CRATES = ("task_core", "task_laws", "task_progress", "task_steps", "task_cell", "task_atomic", "task_replay", "executor_parts", "future_parts", "local_task", "executor", "async_task")
-EXCERPTS = ("docs/EXECUTOR_POOL.md", "crates/executor_parts/KIT.md") + tuple(f"crates/{name}/README.md" for name in CRATES)
+EXCERPTS = ("docs/GUIDE.md", "docs/EXECUTOR_POOL.md", "crates/executor_parts/KIT.md") + tuple(f"crates/{name}/README.md" for name in CRATES)
 # the pages that name hardly anything but what this repository has, and what they name of the kit
 NAMING = WHOLE + EXCERPTS + (
     "CONTRIBUTING.md", "SECURITY.md", "docs/API.md", "docs/ARCHITECTURE.md", "docs/DEVELOPING.md", "docs/EXAMPLES.md",
