@@ -1,6 +1,6 @@
 #!/usr/bin/env python3
 """api.py writes into docs/API.md what each call does: after the call of a line, `Type::name(..)` or `name(..)`, the first sentence of its doc comment, up
-to what is promised, or to be written, and the examples in brackets. A line `- of `Type`: ..` or `- others: ..` has names alone. A heading names the
+to what is promised, or to be written, and an example in brackets. A line `- of `Type`: ..` or `- others: ..` has names alone. A heading names the
 crates whose calls stand below it. api.py --check writes nothing: it compares, and looks for calls that are not there.
 """
 import pathlib
