@@ -1,7 +1,7 @@
 #!/usr/bin/env python3
 """api.py writes into docs/API.md what each call does: after the call of a line, `Type::name(..)` or `name(..)`, the first sentence of its doc comment, up
-to what is promised, or to be written, and the examples in brackets. A heading names the crates whose calls stand below it. api.py --check writes
-nothing: it compares, and looks for calls that are not there.
+to what is promised, or to be written, and an example in brackets. A line `- of `Type`: ..` or `- others: ..` has names alone. A heading names the
+crates whose calls stand below it. api.py --check writes nothing: it compares, and looks for calls that are not there.
 """
 import pathlib
 import re
@@ -12,6 +12,7 @@ PAGE = HERE / "docs/API.md"
 # what a heading may name beside its crate: the crates whose calls `async_task` hands on
 BELOW = {"async_task": ("async_task", "task_cell")}
 CALL = re.compile(r"(- `(?:(\w+)::)?(\w+)[^`]*`[^:]*:).*?( \*[A-Z][a-z ]*:\* .*| \([^()]*\))?")
+NAMES = re.compile(r"- (?:of `(\w+)`|others): ((?:`[\w:]+`(?:, |$))+)")
 ITEM = re.compile(r"\s*(?:pub )?(?:fn|struct|enum|trait) (\w+)")
 
 
@@ -59,8 +60,12 @@ def filled(text):
             for crate in re.findall(r"`(\w+)(?:::\w+)?`", line):
                 for below in BELOW.get(crate, (crate,)):
                     known.update(sentences(below))
+        names = NAMES.fullmatch(line)
+        if names:
+            calls = re.findall(r"`(?:(\w+)::)?(\w+)`", names[2])
+            lost += [name for owner, name in calls if (owner or names[1] or "", name) not in known]
         call = CALL.fullmatch(line)
-        if call and known:
+        if call and known and not names:
             sentence = known.get((call[2] or "", call[3]))
             if sentence:
                 line = f"{call[1]} {sentence}{call[4] or ''}"

@@ -1,9 +1,9 @@
 #!/usr/bin/env python3
-"""Draws word.svg, handshake.svg and life.svg from the table of moves, and prints the rows of MACHINE.md. With --check it only compares them with the table.
+"""Draws word.svg, handshake.svg and life.svg from the table of moves. With --check it only compares them with the table.
 
 The definitions are read from the specs/ of crates/task_core, crates/task_laws and crates/task_progress and evaluated as they stand there, over the
 constants ROWS and NAMES of crates/task_core. All that is stated here is where each state of the word stands in a picture, who steps in a life of a task,
-and how, and how tests and edits of a row are written.
+and how.
 """
 
 import argparse
@@ -42,25 +42,6 @@ LIFE = (
 )
 # of this picture the width, the column of each party, the height of a row, and half the size of the box with a party's name
 WIDTH, COLUMNS, ROW, HEAD = 1450, {0: 340, 2: 525, 3: 710, 4: 895, 5: 1080, 1: 1275}, 24, (56, 17)
-
-
-# how a test and an edit of a row are written, where they are not of one flag; a test that asks nothing and an edit that keeps all are not
-TESTS = {
-    "Open": "open",
-    "Over": "over",
-    "Busy": "SCHEDULED or RUNNING",
-    "SlotBusy": "NOTIFYING or REGISTERING",
-    "NoOutput": "no output left for the Task",
-    "BelowLimit": "count below the limit",
-    "AtLimit": "count at the limit",
-    "OthersLeft": "another handle",
-    "LastHandle": "no other handle",
-    "NoReference": "count 0",
-    "SomeReference": "count of at least 1",
-}
-COUNTS = {"Adds": "count + 1", "Takes": "count − 1", "Orphans": "0x109"}
-# the lines between which the rows stand in MACHINE.md
-TABLE_HEAD, TABLE_END = "Row | Finds | Writes\n--- | --- | ---\n", "\n\n"
 
 
 def chain_of(items, end=("[]",)):
@@ -114,27 +95,6 @@ def row_of(act):
         return ("None",)
     tests, edits, count = ROWS[act[0]]
     return ("Some", fields_of([act, fields_of(tests), fields_of(edits), count]))
-
-
-def flag_of(term):
-    """The name of the flag of a test or an edit."""
-    return {"TaskExists": "TASK"}.get(term[1][0], term[1][0].upper())
-
-
-def row_lines():
-    """A line for each row: what it finds, and what it writes."""
-    for act, (tests, edits, count) in ROWS.items():
-        finds = [{"Is": "", "Not": "no "}[test[0]] + flag_of(test) if len(test) > 1 else TESTS[test[0]] for test in tests if test != ("Always",)]
-        writes = [{"Sets": "+ ", "Clears": "− "}[edit[0]] + flag_of(edit) for edit in edits if edit != ("Keeps",)]
-        writes += [COUNTS[count[0]]] if count != ("Stays",) else []
-        yield f"{act} | {', '.join(finds) or 'any word'} | {', '.join(writes) or 'nothing'}"
-
-
-def machine_page():
-    """MACHINE.md with these lines in its table of rows."""
-    text = (DOCUMENTS / "MACHINE.md").read_text(encoding="utf-8")
-    before, rest = text.split(TABLE_HEAD)
-    return before + TABLE_HEAD + "\n".join(row_lines()) + TABLE_END + rest.split(TABLE_END, 1)[1]
 
 
 PRIMITIVES = {
@@ -690,9 +650,8 @@ class Life:
 
 
 def pages():
-    """The text of MACHINE.md and of each picture. Ends the program where a place has no state, a state no place, or a picture a fault."""
+    """The text of each picture. Ends the program where a place has no state, a state no place, or a picture a fault."""
     definitions = Definitions([source(f"{name}.antt") for name in FILES])
-    yield DOCUMENTS / "MACHINE.md", machine_page()
     yield DOCUMENTS / "life.svg", Life(definitions).text()
     exploration = Exploration(definitions, ACTS)
     print(f"{len(exploration.seen)} states of the machine")
@@ -723,4 +682,4 @@ def main(drawn, description):
 
 
 if __name__ == "__main__":
-    main(pages(), "Draws the charts and prints the rows from the table of moves.")
+    main(pages(), "Draws the charts from the table of moves.")

@@ -146,8 +146,8 @@ PHASES = {
     ("Done", True): ((640, 660), ("done,", "closed")),
 }
 PHASE = (140, 54)
-# from where to where, by what in the words of API.md, by which rows, and where it bends and its label stands. Which call makes which row stands in API.md,
-# under "When a call acts", and what it does in RULES.md: of runs 3.2 to 3.5, of the Task 4.1, 4.6 and 4.7, of wakers 5.2 and 5.3
+# from where to where, by what in the words of API.md, by which rows, and where it bends and its label stands. Which acts a call makes stands in
+# API.md, under "When a call acts", at which rows in specs/Atomic.antt of task_atomic, and what the call does in RULES.md: of runs 3.2 to 3.5, of the Task 4.1, 4.6 and 4.7, of wakers 5.2 and 5.3
 MOVES = (
     ("Queued", "Polled", ("run",), "StartRun", None, 0.5),
     ("Polled", "Idle", ("Pending",), "EndIdle", None, 0.5),

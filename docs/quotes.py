@@ -1,11 +1,9 @@
 #!/usr/bin/env python3
 """quotes.py --check compares the code blocks of README.md and of other pages with the files that they are quoted from, and looks for what pages name:
-the tests of docs/API.md, each name with an underscore on the pages of NAMING, and the kit's logic in README.md. quotes.py FOLDER writes the files below FOLDER as a reader who types
-the blocks of README.md and docs/GUIDE.md in would, to try them in another repository.
+the tests of docs/API.md, each name with an underscore on the pages of NAMING, and the kit's logic in README.md.
 
-A block between fences is quoted from the file that the last path in backticks before it names. In README.md and docs/GUIDE.md all blocks of a file, in
-their order, with a blank line between two, are the whole file. Elsewhere a block is lines of it that stand together, moved to the left. Of crates.txt a
-block is some lines. What is indented by four instead, as commands are, is no quotation.
+A block between fences is quoted from the file that the last path in backticks before it names: it is lines of it that stand together, moved to the
+left. What is indented by four instead, as commands are, is no quotation.
 """
 import pathlib
 import re
@@ -14,14 +12,13 @@ import sys
 import textwrap
 
 HERE = pathlib.Path(__file__).resolve().parent.parent
-PATH = re.compile(r"`(crates/[\w./]+|crates\.txt)`")
+PATH = re.compile(r"`(crates/[\w./]+)`")
 FENCED = re.compile(r"^```\w*\n(.*?)^```\n", re.MULTILINE | re.DOTALL)
-WHOLE = ("README.md", "docs/GUIDE.md")
 # crates with a page of their own, which is looked at as the other pages are
 CRATES = ("task_core", "task_laws", "task_progress", "task_steps", "task_cell", "task_atomic", "task_replay", "executor_parts", "future_parts", "local_task", "executor", "async_task")
-EXCERPTS = ("docs/EXECUTOR_POOL.md", "crates/executor_parts/KIT.md") + tuple(f"crates/{name}/README.md" for name in CRATES)
+EXCERPTS = ("README.md", "docs/GUIDE.md", "docs/EXECUTOR_POOL.md", "crates/executor_parts/KIT.md") + tuple(f"crates/{name}/README.md" for name in CRATES)
 # the pages that name hardly anything but what this repository has, and what they name of the kit
-NAMING = WHOLE + EXCERPTS + (
+NAMING = EXCERPTS + (
     "CONTRIBUTING.md", "SECURITY.md", "docs/API.md", "docs/ARCHITECTURE.md", "docs/DEVELOPING.md", "docs/EXAMPLES.md",
     "docs/MACHINE.md", "docs/PROOFS.md", "docs/RULES.md", "crates/taskrows/README.md",
     "crates/replay_trace/README.md")
@@ -46,13 +43,9 @@ def blocks_of(page):
     return blocks
 
 
-def agrees(page, path, blocks):
-    """Whether these blocks are the file, or where they need not be all of it stand in it."""
+def agrees(path, blocks):
+    """Whether these blocks stand in the file."""
     text = (HERE / path).read_text(encoding="utf-8")
-    if path == "crates.txt":
-        return set("\n".join(blocks).split("\n")) <= set(text.split("\n"))
-    if page in WHOLE:
-        return "\n".join(blocks) == text
     moved = [[textwrap.indent(block, " " * 4 * depth) for depth in range(10)] for block in blocks]
     return all(any("\n" + block in "\n" + text for block in depths) for depths in moved)
 
@@ -99,30 +92,18 @@ def check():
     wrong = [f"docs/API.md: no test has the name {name}" for name in lost_tests()]
     wrong += [f"{page}: nothing has the name {name}" for page, name in lost_names()]
     wrong += [f"README.md: `rt version` prints {here}, which is of another logic" for here in other_logic()]
-    for page in WHOLE + EXCERPTS:
+    for page in EXCERPTS:
         for path, blocks in blocks_of(page).items():
-            if not agrees(page, path, blocks):
+            if not agrees(path, blocks):
                 wrong.append(f"{page}: the blocks of {path} are not its text")
     print("".join(line + "\n" for line in wrong), end="")
     return bool(wrong)
 
 
-def write(folder):
-    """Writes the files as they are typed in."""
-    for page in WHOLE:
-        for path, blocks in blocks_of(page).items():
-            target = pathlib.Path(folder) / path
-            target.parent.mkdir(parents=True, exist_ok=True)
-            with open(target, "a" if path == "crates.txt" else "w", encoding="utf-8") as file:
-                file.write("\n".join(blocks))
-
-
 def main():
-    if len(sys.argv) != 2 or sys.argv[1] in ("-h", "--help"):
+    if sys.argv[1:] != ["--check"]:
         sys.exit(__doc__)
-    if sys.argv[1] == "--check":
-        sys.exit(1 if check() else 0)
-    write(sys.argv[1])
+    sys.exit(1 if check() else 0)
 
 
 if __name__ == "__main__":
