@@ -4,10 +4,12 @@ ghost use Rattle.std.specs.Arc.{arc_value};
 ghost use Rattle.future_parts.specs.Messaging.{unsent};
 ghost use Rattle.future_parts.specs.Registering.{made_with, IsRegistered, SendPolled};
 
-use crate::asked::{Answer, own_waker};
-use crate::due::{ReceiverEnd, SenderEnd, Step, Sweep, first_ends};
-use crate::line::Place;
-use crate::messages::{Messages, Received, Sent, TryReceiveError, TrySendError};
+use crate::asked::permits::Sweep;
+use crate::asked::{Answer, Place, own_waker};
+use crate::due::Step;
+use crate::messages::{
+    Messages, Received, ReceiverEnd, SenderEnd, Sent, TryReceiveError, TrySendError, first_ends,
+};
 use crate::shared::Shared;
 use std::alloc::{AllocError, Global};
 use std::mem;

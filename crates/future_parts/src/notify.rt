@@ -3,9 +3,8 @@ ghost use Rattle.std.specs.Prelude.{◌≡◌, None, Some, true, is_none, IfOk, 
 ghost use Rattle.std.specs.Arc.{arc_value};
 ghost use Rattle.future_parts.specs.Registering.{made_with, AwaitPolled};
 
-use crate::asked::{Answer, own_waker};
+use crate::asked::{Answer, Place, own_waker};
 use crate::due::Step;
-use crate::line::Place;
 use crate::notices::Notices;
 use crate::shared::Shared;
 use std::alloc::{AllocError, Global};
