@@ -45,6 +45,8 @@ pub struct OneSender<R: Wait + Drop + Copy, T: Drop, W: Wake> {
 
 impl<R: Wait + Drop + Copy, T: Drop, W: Wake> OneSender<R, T, W> {
     /// Sends the value, and wakes who waits for it. It asks for no memory. An error hands the value back, where the receiver is gone.
+    ///
+    /// Of a value that was sent there is no clause, since no contract sees through the lock: `Single::send` has one, and a test sees that it is called.
     pub fn send(mut self, value: T) -> Result<(), T>
         ensures { IfErr result (λ back. back ≡ value) }
     {
