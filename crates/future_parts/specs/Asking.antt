@@ -1,10 +1,10 @@
 use Rattle.std.specs.Prelude.{◌≡◌, ◌≢◌, ◌^◌, ◌+◌, ◌<◌, ◌≤◌, ◌∷◌, ◌++◌, [], ℕ, Option, Some, None, true, length, slice_get, slice_set, IfSome, IsSome, MatchOption, false, ◌⊎◌}
 use Rattle.std.specs.List.{remove}
 use Rattle.std.specs.Option.{option_to_list}
-use Rattle.future_parts.specs.declared.permits.Permits.{Permits}
+use Rattle.future_parts.specs.declared.asked.permits.Permits.{Permits}
 use Rattle.future_parts.specs.declared.asked.Answer.{Answer}
 use Rattle.future_parts.specs.declared.asked.Answer.TheVariants.{Taken, Closed, Waits, Refused}
-use Rattle.future_parts.specs.declared.line.Waiter.{Waiter}
+use Rattle.future_parts.specs.declared.asked.line.Waiter.{Waiter}
 use Rattle.future_parts.specs.declared.due.Step.{Step}
 use Rattle.future_parts.specs.declared.due.Step.TheVariants.{Next, Done}
 use Rattle.future_parts.specs.Lines.{waiting, spot, FirstOut}

@@ -1,7 +1,7 @@
 use Rattle.std.specs.Prelude.{◌≡◌, [], ◌∷◌, ℕ, List, Option, Some, None, nat_eq}
 use Rattle.std.specs.List.{position}
-use Rattle.future_parts.specs.declared.line.Line.{Line}
-use Rattle.future_parts.specs.declared.line.Waiter.{Waiter}
+use Rattle.future_parts.specs.declared.asked.line.Line.{Line}
+use Rattle.future_parts.specs.declared.asked.line.Waiter.{Waiter}
 
 module _ {W : Type 0} where
   -- the waiters, the one that came first in front

@@ -1,10 +1,10 @@
 use Rattle.std.specs.Prelude.{◌≡◌, ◌+◌, ◌<◌, ◌≤◌, [], ◌∷◌, ℕ, List, Option, IsSome, length}
 use Rattle.std.specs.Option.{option_to_list}
-use Rattle.future_parts.specs.declared.permits.Permits.{Permits}
-use Rattle.future_parts.specs.declared.line.Waiter.{Waiter}
+use Rattle.future_parts.specs.declared.asked.permits.Permits.{Permits}
+use Rattle.future_parts.specs.declared.asked.line.Waiter.{Waiter}
 use Rattle.future_parts.specs.declared.due.Step.{Step}
 use Rattle.future_parts.specs.declared.due.Step.TheVariants.{Next, Done}
-use Rattle.future_parts.specs.declared.due.Notice.{Notice}
+use Rattle.future_parts.specs.declared.notices.Notice.{Notice}
 use Rattle.future_parts.specs.Lines.{waiting, FirstOut}
 use Rattle.future_parts.specs.Asking.{Same, SameRest}
 

@@ -1,5 +1,5 @@
 use Rattle.std.specs.Prelude.{◌≡◌, Option, None, true, false, IsSome}
-use Rattle.future_parts.specs.declared.single.Single.{Single}
+use Rattle.future_parts.specs.declared.asked.single.Single.{Single}
 use Rattle.future_parts.specs.declared.asked.Answer.{Answer}
 use Rattle.future_parts.specs.declared.asked.Answer.TheVariants.{Taken, Closed, Waits, Refused}
 

@@ -1,8 +1,12 @@
-//! What a poll that asks a state for something leads to.
-ghost use Rattle.std.specs.Prelude.{◌≡◌, Ok, IfSome};
+//! What a poll asks a state with, and what that leads to.
+ghost use Rattle.std.specs.Prelude.{◌≡◌, None, Ok, IfSome};
 
 use crate::shared::Unlocked;
 use task_core::Wake;
+
+pub(crate) mod line;
+pub(crate) mod permits;
+pub(crate) mod single;
 
 /// What asking for a permit led to.
 #[derive(Clone, Copy, Debug, PartialEq, Eq)]
@@ -17,14 +21,43 @@ pub enum Answer {
     Refused,
 }
 
-/// A clone of the waker that a poll was lent, or none where it is refused.
-pub(crate) fn own_waker<W: Wake>(waker: &W) -> Option<W>
-    ensures { IfSome result (λ clone. W.cloned waker.now (Ok clone)) }
-{
-    waker.try_clone().ok()
+/// The place of a future: outside of the line, or with the number under which a waiter joined for it. It has no `Drop`, so a future that goes without giving it up does not compile.
+pub struct Place {
+    number: Option<u64>,
 }
 
-/// An answer, and a waker that is not needed. It has no `Drop`: it ends in `settle`, so a poll that was refused wakes its own waker.
+impl Place {
+    /// A place outside of the line.
+    pub fn outside() -> Place
+        ensures { result.number ≡ None }
+    {
+        Place { number: None }
+    }
+
+    // Ends a place that is outside.
+    pub(crate) fn end(self)
+        requires { self.number ≡ None }
+    {
+        let Place { number: _ } = self;
+    }
+}
+
+/// A clone of the waker that a poll was lent, or none where it is refused. It has no `Drop`: a state takes it, so a poll that has made one asks.
+#[must_use]
+pub struct Own<W> {
+    waker: Option<W>,
+}
+
+/// A clone of the waker that a poll was lent.
+pub(crate) fn own_waker<W: Wake>(waker: &W) -> Own<W>
+    ensures { IfSome result.waker (λ clone. W.cloned waker.now (Ok clone)) }
+{
+    Own {
+        waker: waker.try_clone().ok(),
+    }
+}
+
+/// An answer, and a waker that is not needed. A state alone makes it. It has no `Drop`: it ends in `settle`, so a poll that was refused wakes its own waker.
 #[must_use]
 pub struct Asked<W> {
     answer: Answer,
@@ -32,8 +65,8 @@ pub struct Asked<W> {
 }
 
 impl<W> Asked<W> {
-    /// This answer, and a waker that is not needed.
-    pub fn new(answer: Answer, spare: Option<W>) -> Asked<W>
+    // This answer, and a waker that is not needed.
+    fn new(answer: Answer, spare: Option<W>) -> Asked<W>
         ensures { (result.answer ≡ answer) × (result.spare ≡ spare) }
     {
         Asked { answer, spare }

@@ -3,10 +3,8 @@ ghost use Rattle.std.specs.Prelude.{◌≡◌, None, Some, true, is_none, IfErr,
 ghost use Rattle.std.specs.Arc.{arc_value};
 ghost use Rattle.future_parts.specs.Registering.{made_with, AwaitPolled};
 
-use crate::asked::own_waker;
-use crate::due::Lease;
-use crate::kept_value::KeptValue;
-use crate::line::Place;
+use crate::asked::{Place, own_waker};
+use crate::kept_value::{KeptValue, ValueLease};
 use crate::shared::Shared;
 use std::alloc::{AllocError, Global};
 use std::sync::{Arc, Wait};
@@ -76,7 +74,7 @@ impl<R: Wait + Drop + Copy, T: Drop, W: Wake> AsyncMutex<R, T, W> {
 pub struct Guard<R: Wait + Drop + Copy, T: Drop, W: Wake> {
     mutex: AsyncMutex<R, T, W>,
     value: T,
-    lease: Lease,
+    lease: ValueLease,
 }
 
 impl<R: Wait + Drop + Copy, T: Drop, W: Wake> Guard<R, T, W> {

@@ -4,10 +4,12 @@ ghost use Rattle.std.specs.Arc.{arc_value};
 ghost use Rattle.future_parts.specs.Messaging.{unsent};
 ghost use Rattle.future_parts.specs.Registering.{made_with, IsRegistered, SendPolled};
 
-use crate::asked::{Answer, own_waker};
-use crate::due::{ReceiverEnd, SenderEnd, Step, Sweep, first_ends};
-use crate::line::Place;
-use crate::messages::{Messages, Received, Sent, TryReceiveError, TrySendError};
+use crate::asked::permits::Sweep;
+use crate::asked::{Answer, Place, own_waker};
+use crate::due::Step;
+use crate::messages::{
+    Messages, Received, ReceiverEnd, SenderEnd, Sent, TryReceiveError, TrySendError, first_ends,
+};
 use crate::shared::Shared;
 use std::alloc::{AllocError, Global};
 use std::mem;
@@ -73,6 +75,8 @@ impl<R: Wait + Drop + Copy, T: Drop, W: Wake> Sender<R, T, W> {
     }
 
     /// Sends a message at once. An error hands it back: there is no room, or others wait for room, or all receivers are gone.
+    ///
+    /// Of a message that was sent there is no clause, since no contract sees through the lock: `Messages::try_send` has one, and a test sees that it is called.
     pub fn try_send(&self, message: T) -> Result<(), TrySendError<T>>
         ensures { IfErr result (λ error. unsent error ≡ message) }
     {
@@ -214,6 +218,8 @@ impl<R: Wait + Drop + Copy, T: Drop, W: Wake> Receiver<R, T, W> {
     }
 
     /// Receives a message at once. An error says that none is here, or others wait for it, or none will come.
+    ///
+    /// It has no clause, as a message that was sent: `Messages::try_receive` has.
     pub fn try_receive(&self) -> Result<T, TryReceiveError> {
         let mut unlocked = self.state.unlocked();
         let (message, due) = unlocked.lock(&self.rt).try_receive()?;

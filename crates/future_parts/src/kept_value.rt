@@ -2,11 +2,14 @@
 ghost use Rattle.std.specs.Prelude.{◌≡◌, ◌≢◌, ◌<◌, ◌≤◌, ◌+◌, ◌⊎◌, [], None, Some, true, false, IfOk, IfErr, IsOk, IfSome, IsSome, length, option_map};
 ghost use Rattle.std.specs.Option.{option_to_list};
 
-use crate::asked::{Answer, Asked};
-use crate::due::{Due, Lease};
-use crate::line::Place;
-use crate::permits::Permits;
+use crate::asked::permits::Permits;
+use crate::asked::{Answer, Asked, Own, Place};
+use crate::due::Due;
 use std::alloc::{AllocError, Global};
+
+/// The value of a mutex is out. It has no `Drop`, and ends only where that is put back.
+#[must_use]
+pub struct ValueLease(());
 
 /// A value that is here, free or assigned to a waiter, or out; and the line.
 #[derive(Drop)]
@@ -36,7 +39,7 @@ impl<T: Drop, W: Drop> KeptValue<T, W> {
     }
 
     /// Hands the value out where it is free. Where one waits it is not.
-    pub fn try_take(&mut self) -> Option<(T, Lease)>
+    pub fn try_take(&mut self) -> Option<(T, ValueLease)>
         ensures free { 0 < self.old.permits.free → (option_map (λ out. out.0) result ≡ self.old.value) × IsSome result × (self.new.value ≡ None) }
         ensures line { (self.new.permits.given ≡ self.old.permits.given) × SameLine self.old.permits self.new.permits }
         ensures none { self.old.permits.free ≡ 0 → (result ≡ None) × (self.new.value ≡ self.old.value) × Same self.old.permits self.new.permits }
@@ -45,39 +48,39 @@ impl<T: Drop, W: Drop> KeptValue<T, W> {
             return None;
         }
         let value = self.value.take()?;
-        Some((value, Lease {}))
+        Some((value, ValueLease(())))
     }
 
     /// Asks for the value, as `Permits::poll_take`. It is handed out where the answer is `Taken`.
     pub fn poll_take(
         &mut self,
         place: &mut Place,
-        waker: Option<W>,
-    ) -> (Asked<W>, Option<(T, Lease)>)
-        ensures polled { Polled result.0.answer self.old.permits place.old.number waker self.new.permits place.new.number result.0.spare }
-        ensures reserved { NotRefused result.0.answer self.old.permits waker }
-        ensures waits { result.0.answer ≡ Answer.Waits → IsSome waker }
+        own: Own<W>,
+    ) -> (Asked<W>, Option<(T, ValueLease)>)
+        ensures polled { Polled result.0.answer self.old.permits place.old.number own.waker self.new.permits place.new.number result.0.spare }
+        ensures reserved { NotRefused result.0.answer self.old.permits own.waker }
+        ensures waits { result.0.answer ≡ Answer.Waits → IsSome own.waker }
         ensures open { result.0.answer ≢ Answer.Closed }
         ensures outside { IsSome result.1 → place.new.number ≡ None }
         ensures value { ValueHandedOut result.0.answer self.old.value (option_map (λ out. out.0) result.1) self.new.value }
     {
-        let asked = self.permits.poll_take(place, waker);
+        let asked = self.permits.poll_take(place, own);
         if asked.answer() != Answer::Taken {
             return (asked, None);
         }
         match self.value.take() {
-            Some(value) => (asked, Some((value, Lease {}))),
+            Some(value) => (asked, Some((value, ValueLease(())))),
             None => unreachable!(),
         }
     }
 
     /// Puts the value back: for the waiter that came first, or free where none waits. An error hands it back where there is one here.
-    pub fn put(&mut self, value: T, lease: Lease) -> Result<Due<W>, T>
+    pub fn put(&mut self, value: T, lease: ValueLease) -> Result<Due<W>, T>
         ensures back { self.old.value ≡ None → IsOk result }
         ensures put { IfOk result (λ due. PutBack value self.old self.new due.waker) }
         ensures full { IfErr result (λ back. (back ≡ value) × (self.new.value ≡ self.old.value) × Same self.old.permits self.new.permits) }
     {
-        let Lease {} = lease;
+        let ValueLease(()) = lease;
         if self.value.is_some() {
             return Err(value);
         }

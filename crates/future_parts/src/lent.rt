@@ -2,11 +2,14 @@
 ghost use Rattle.std.specs.Prelude.{◌≡◌, ◌≢◌, ◌<◌, ◌≤◌, ◌+◌, ◌-◌, ◌^◌, ◌↔◌, ◌⊎◌, [], None, Some, true, false, IfOk, IfSome, IsSome, IsTrue, length};
 ghost use Rattle.std.specs.Option.{option_to_list};
 
-use crate::asked::{Answer, Asked};
-use crate::due::{Due, Lease};
-use crate::line::Place;
-use crate::permits::Permits;
+use crate::asked::permits::Permits;
+use crate::asked::{Answer, Asked, Own, Place};
+use crate::due::Due;
 use std::alloc::{AllocError, Global};
+
+/// A permit is lent. It has no `Drop`, and ends only where that is given back.
+#[must_use]
+pub struct Lease(());
 
 /// The permits of a semaphore, and the line of those who wait for one.
 #[derive(Drop)]
@@ -50,26 +53,26 @@ impl<W: Drop> Lent<W> {
             return None;
         }
         self.lent += 1;
-        Some(Lease {})
+        Some(Lease(()))
     }
 
     /// Asks for a permit, as `Permits::poll_take`. One that is taken is lent from then on.
-    pub fn poll_take(&mut self, place: &mut Place, waker: Option<W>) -> (Asked<W>, Option<Lease>)
-        ensures polled { Polled result.0.answer self.old.permits place.old.number waker self.new.permits place.new.number result.0.spare }
-        ensures reserved { NotRefused result.0.answer self.old.permits waker }
-        ensures waits { result.0.answer ≡ Answer.Waits → IsSome waker }
+    pub fn poll_take(&mut self, place: &mut Place, own: Own<W>) -> (Asked<W>, Option<Lease>)
+        ensures polled { Polled result.0.answer self.old.permits place.old.number own.waker self.new.permits place.new.number result.0.spare }
+        ensures reserved { NotRefused result.0.answer self.old.permits own.waker }
+        ensures waits { result.0.answer ≡ Answer.Waits → IsSome own.waker }
         ensures open { result.0.answer ≢ Answer.Closed }
         ensures outside { result.0.answer ≡ Answer.Taken → place.new.number ≡ None }
         ensures lease { IsSome result.1 ↔ (result.0.answer ≡ Answer.Taken) }
         ensures lent { self.new.lent ≡ self.old.lent + lent_by result.0.answer }
         ensures all { self.new.all ≡ self.old.all }
     {
-        let asked = self.permits.poll_take(place, waker);
+        let asked = self.permits.poll_take(place, own);
         if asked.answer() != Answer::Taken {
             return (asked, None);
         }
         self.lent += 1;
-        (asked, Some(Lease {}))
+        (asked, Some(Lease(())))
     }
 
     /// Takes a lent permit back: the waiter that came first has it then, or it is free. Where none is lent nothing happens.
@@ -78,7 +81,7 @@ impl<W: Drop> Lent<W> {
         ensures none { self.old.lent ≡ 0 → Same self.old.permits self.new.permits × (self.new.lent ≡ 0) × (result.waker ≡ None) }
         ensures all { self.new.all ≡ self.old.all }
     {
-        let Lease {} = lease;
+        let Lease(()) = lease;
         if self.lent == 0 {
             return Due::new(None);
         }

@@ -3,10 +3,9 @@ ghost use Rattle.std.specs.Prelude.{◌≡◌, ◌<◌, ◌≤◌, ◌+◌, ◌-
 ghost use Rattle.std.specs.Option.{option_to_list};
 ghost use Rattle.std.specs.VecDeque.{deque_capacity};
 
-use crate::asked::{Answer, Asked};
-use crate::due::{Due, ReceiverEnd, SenderEnd, Step, Sweep};
-use crate::line::Place;
-use crate::permits::Permits;
+use crate::asked::permits::{Permits, Sweep};
+use crate::asked::{Answer, Asked, Own, Place};
+use crate::due::{Due, Step};
 use std::alloc::{AllocError, Global};
 use std::collections::VecDeque;
 use std::{fmt, io};
@@ -70,6 +69,19 @@ impl From<TryReceiveError> for io::Error {
     fn from(error: TryReceiveError) -> io::Error {
         io::Error::other(error.words())
     }
+}
+
+/// A sender is there. It has no `Drop`, and ends only where the state is told that the sender is gone.
+#[must_use]
+pub struct SenderEnd(());
+
+/// A receiver is there. It has no `Drop`, and ends only where the state is told that the receiver is gone.
+#[must_use]
+pub struct ReceiverEnd(());
+
+// The first two ends of a channel.
+pub(crate) fn first_ends() -> (SenderEnd, ReceiverEnd) {
+    (SenderEnd(()), ReceiverEnd(()))
 }
 
 /// What a send that may wait led to.
@@ -177,22 +189,22 @@ impl<T: Drop, W: Drop> Messages<T, W> {
     }
 
     /// Sends a message, or has the waker wait for room in its place, as `Permits::poll_take`. It asks for no memory for the message.
-    pub fn poll_send(&mut self, place: &mut Place, message: T, waker: Option<W>) -> Sent<T, W>
-        ensures reserved { NotRefused result.asked.answer self.old.room waker }
-        ensures waits { result.asked.answer ≡ Answer.Waits → IsSome waker }
-        ensures led { SendLed result.asked.answer self.old place.old.number waker self.new place.new.number result.asked.spare }
+    pub fn poll_send(&mut self, place: &mut Place, message: T, own: Own<W>) -> Sent<T, W>
+        ensures reserved { NotRefused result.asked.answer self.old.room own.waker }
+        ensures waits { result.asked.answer ≡ Answer.Waits → IsSome own.waker }
+        ensures led { SendLed result.asked.answer self.old place.old.number own.waker self.new place.new.number result.asked.spare }
         ensures sent { result.asked.answer ≡ Answer.Taken → (result.back ≡ None) × SentTo message self.old self.new result.due.waker }
         ensures back { (result.asked.answer ≡ Answer.Taken → ⊥) → (result.back ≡ Some message) × (result.due.waker ≡ None) × (self.new.messages.items ≡ self.old.messages.items) × Same self.old.here self.new.here }
         ensures peers { SamePeers self.old self.new }
     {
         if self.room.closed {
             return Sent {
-                asked: Asked::new(Answer::Closed, waker),
+                asked: self.room.none_left(own),
                 back: Some(message),
                 due: Due::new(None),
             };
         }
-        let asked = self.room.poll_take(place, waker);
+        let asked = self.room.poll_take(place, own);
         if asked.answer() == Answer::Taken {
             self.messages.push_back_reserved(message);
             return Sent {
@@ -209,15 +221,15 @@ impl<T: Drop, W: Drop> Messages<T, W> {
     }
 
     /// Receives a message, or has the waker wait for one in its place, as `Permits::poll_take`.
-    pub fn poll_receive(&mut self, place: &mut Place, waker: Option<W>) -> Received<T, W>
-        ensures reserved { NotRefused result.asked.answer self.old.here waker }
-        ensures waits { result.asked.answer ≡ Answer.Waits → IsSome waker }
-        ensures polled { Polled result.asked.answer self.old.here place.old.number waker self.new.here place.new.number result.asked.spare }
+    pub fn poll_receive(&mut self, place: &mut Place, own: Own<W>) -> Received<T, W>
+        ensures reserved { NotRefused result.asked.answer self.old.here own.waker }
+        ensures waits { result.asked.answer ≡ Answer.Waits → IsSome own.waker }
+        ensures polled { Polled result.asked.answer self.old.here place.old.number own.waker self.new.here place.new.number result.asked.spare }
         ensures received { result.asked.answer ≡ Answer.Taken → IfSome result.message (λ message. ReceivedFrom message self.old self.new result.due.waker) × IsSome result.message }
         ensures none { (result.asked.answer ≡ Answer.Taken → ⊥) → (result.message ≡ None) × (result.due.waker ≡ None) × (self.new.messages.items ≡ self.old.messages.items) × Same self.old.room self.new.room }
         ensures peers { SamePeers self.old self.new }
     {
-        let asked = self.here.poll_take(place, waker);
+        let asked = self.here.poll_take(place, own);
         if asked.answer() == Answer::Taken {
             return match self.messages.pop_front() {
                 Some(message) => Received {
@@ -261,7 +273,7 @@ impl<T: Drop, W: Drop> Messages<T, W> {
             return None;
         }
         self.senders += 1;
-        Some(SenderEnd {})
+        Some(SenderEnd(()))
     }
 
     /// One more receiver. `None` where there are as many as can be counted, or none is left.
@@ -274,7 +286,7 @@ impl<T: Drop, W: Drop> Messages<T, W> {
             return None;
         }
         self.receivers += 1;
-        Some(ReceiverEnd {})
+        Some(ReceiverEnd(()))
     }
 
     /// A sender is gone. With the last one the receivers' line is closed, and who waits there is to be woken.
@@ -284,7 +296,7 @@ impl<T: Drop, W: Drop> Messages<T, W> {
         ensures other { 1 < self.old.senders → IsNone result × (self.new.here.closed ≡ self.old.here.closed) }
         ensures rest { Unchanged self.old self.new × (self.new.receivers ≡ self.old.receivers) × (self.new.room.closed ≡ self.old.room.closed) }
     {
-        let SenderEnd {} = end;
+        let SenderEnd(()) = end;
         self.senders = self.senders.saturating_sub(1);
         if self.senders == 0 {
             Some(self.here.close())
@@ -300,7 +312,7 @@ impl<T: Drop, W: Drop> Messages<T, W> {
         ensures other { 1 < self.old.receivers → IsNone result × (self.new.room.closed ≡ self.old.room.closed) }
         ensures rest { Unchanged self.old self.new × (self.new.senders ≡ self.old.senders) × (self.new.here.closed ≡ self.old.here.closed) }
     {
-        let ReceiverEnd {} = end;
+        let ReceiverEnd(()) = end;
         self.receivers = self.receivers.saturating_sub(1);
         if self.receivers == 0 {
             Some(self.room.close())

@@ -2,11 +2,16 @@
 ghost use Rattle.std.specs.Prelude.{◌≡◌, ◌≢◌, ◌<◌, ◌≤◌, ◌+◌, ◌^◌, ◌⊎◌, [], None, Some, true, false, IfOk, IfSome, IsSome, length};
 ghost use Rattle.std.specs.Option.{option_to_list};
 
-use crate::asked::{Answer, Asked};
-use crate::due::{Due, Notice, Step};
-use crate::line::Place;
-use crate::permits::Permits;
+use crate::asked::permits::Permits;
+use crate::asked::{Answer, Asked, Own, Place};
+use crate::due::{Due, Step};
 use std::alloc::{AllocError, Global};
+
+/// The duty to wake those that waited when it began: the waiters with a number below a limit. It has no `Drop`, and ends only where none of them comes first.
+#[must_use]
+pub struct Notice {
+    limit: u64,
+}
 
 /// Notifications: one that is kept, those that are assigned to a waiter, and the line.
 #[derive(Drop)]
@@ -48,14 +53,14 @@ impl<W: Drop> Notices<W> {
     }
 
     /// Asks for a notification, as `Permits::poll_take`.
-    pub fn poll_take(&mut self, place: &mut Place, waker: Option<W>) -> Asked<W>
-        ensures polled { Polled result.answer self.old.permits place.old.number waker self.new.permits place.new.number result.spare }
-        ensures reserved { NotRefused result.answer self.old.permits waker }
-        ensures waits { result.answer ≡ Answer.Waits → IsSome waker }
+    pub fn poll_take(&mut self, place: &mut Place, own: Own<W>) -> Asked<W>
+        ensures polled { Polled result.answer self.old.permits place.old.number own.waker self.new.permits place.new.number result.spare }
+        ensures reserved { NotRefused result.answer self.old.permits own.waker }
+        ensures waits { result.answer ≡ Answer.Waits → IsSome own.waker }
         ensures open { result.answer ≢ Answer.Closed }
         ensures outside { result.answer ≡ Answer.Taken → place.new.number ≡ None }
     {
-        self.permits.poll_take(place, waker)
+        self.permits.poll_take(place, own)
     }
 
     /// Gives a place up. Its waiter leaves the line, and a notification that was assigned to it notifies another.

@@ -3,9 +3,8 @@ ghost use Rattle.std.specs.Prelude.{◌≡◌, None, Some, true, is_none, IfOk, 
 ghost use Rattle.std.specs.Arc.{arc_value};
 ghost use Rattle.future_parts.specs.Registering.{made_with, AwaitPolled};
 
-use crate::asked::{Answer, own_waker};
+use crate::asked::{Answer, Place, own_waker};
 use crate::due::Step;
-use crate::line::Place;
 use crate::notices::Notices;
 use crate::shared::Shared;
 use std::alloc::{AllocError, Global};
@@ -40,6 +39,8 @@ impl<R: Wait + Drop + Copy, W: Wake> Notify<R, W> {
     }
 
     /// Notifies the future that has waited longest. Where none waits, the notification is kept for the next one, unless one is kept already.
+    ///
+    /// It has no clause, since no contract sees through the lock: `Notices::notify_one` has, and a test sees that it is called.
     pub fn notify_one(&self) {
         let mut unlocked = self.state.unlocked();
         let due = unlocked.lock(&self.rt).notify_one();
@@ -47,6 +48,8 @@ impl<R: Wait + Drop + Copy, W: Wake> Notify<R, W> {
     }
 
     /// Notifies all futures that wait now: those that were polled. Nothing is kept for later ones.
+    ///
+    /// It has no clause, as `notify_one`: `Notices::tell` has.
     pub fn notify_waiters(&self) {
         let mut unlocked = self.state.unlocked();
         let mut notice = unlocked.lock(&self.rt).notify_waiters();

@@ -3,10 +3,9 @@ ghost use Rattle.std.specs.Prelude.{◌≡◌, IfErr, IfOk};
 ghost use Rattle.std.specs.Arc.{arc_value};
 ghost use Rattle.future_parts.specs.Registering.{IsRegistered};
 
+use crate::asked::single::{OneReceiverEnd, OneSenderEnd, Single, both_ends};
 use crate::asked::{Answer, own_waker};
-use crate::due::{ReceiverEnd, SenderEnd, first_ends};
 use crate::shared::Shared;
-use crate::single::Single;
 use std::alloc::{AllocError, Global};
 use std::sync::{Arc, Wait};
 use task_core::{Future, Poll, Wake, Yields};
@@ -22,7 +21,7 @@ pub fn oneshot<R: Wait + Drop + Copy, T: Drop, W: Wake>(
 {
     let state = Arc::new(alloc, Shared::new(Single::new()))?;
     let other = Arc::try_clone(&state)?;
-    let (sending, receiving) = first_ends();
+    let (sending, receiving) = both_ends();
     let sender = OneSender {
         rt,
         state,
@@ -41,11 +40,13 @@ pub struct OneSender<R: Wait + Drop + Copy, T: Drop, W: Wake> {
     rt: R,
     state: Arc<Shared<Single<T, W>>>,
     // None once the value was sent.
-    end: Option<SenderEnd>,
+    end: Option<OneSenderEnd>,
 }
 
 impl<R: Wait + Drop + Copy, T: Drop, W: Wake> OneSender<R, T, W> {
     /// Sends the value, and wakes who waits for it. It asks for no memory. An error hands the value back, where the receiver is gone.
+    ///
+    /// Of a value that was sent there is no clause, since no contract sees through the lock: `Single::send` has one, and a test sees that it is called.
     pub fn send(mut self, value: T) -> Result<(), T>
         ensures { IfErr result (λ back. back ≡ value) }
     {
@@ -74,7 +75,7 @@ impl<R: Wait + Drop + Copy, T: Drop, W: Wake> Drop for OneSender<R, T, W> {
 pub struct OneReceiver<R: Wait + Drop + Copy, T: Drop, W: Wake> {
     rt: R,
     state: Arc<Shared<Single<T, W>>>,
-    end: ReceiverEnd,
+    end: OneReceiverEnd,
 }
 
 impl<R: Wait + Drop + Copy, T: Drop, W: Wake> Drop for OneReceiver<R, T, W> {

@@ -3,10 +3,8 @@ ghost use Rattle.std.specs.Prelude.{◌≡◌, None, Some, true, is_none, IfErr,
 ghost use Rattle.std.specs.Arc.{arc_value};
 ghost use Rattle.future_parts.specs.Registering.{made_with, AwaitPolled};
 
-use crate::asked::own_waker;
-use crate::due::Lease;
-use crate::lent::Lent;
-use crate::line::Place;
+use crate::asked::{Place, own_waker};
+use crate::lent::{Lease, Lent};
 use crate::shared::Shared;
 use std::alloc::{AllocError, Global};
 use std::sync::{Arc, Wait};

@@ -1,5 +1,5 @@
 use Rattle.std.specs.Prelude.{◌≡◌}
-use Rattle.future_time.specs.declared.table.TimerTable.{TimerTable}
+use Rattle.future_time.specs.declared.entry.table.TimerTable.{TimerTable}
 
 module _ {W : Type 0} where
   -- the timers, what was reached, and whether they are closed, stay

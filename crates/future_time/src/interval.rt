@@ -5,8 +5,7 @@ ghost use Rattle.std.specs.Arc.{arc_value};
 ghost use Rattle.future_time.specs.Sleeps.{SleepPolled};
 ghost use Rattle.future_time.specs.Ticking.{TickPolled};
 
-use crate::entry::{Elapsed, Look, TimerKey};
-use crate::looked::own_waker;
+use crate::entry::{Elapsed, Look, TimerKey, own_waker};
 use crate::sleep::Closed;
 use crate::ticks::{LAST_TICK, ticks_of};
 use crate::timers::{TimerError, Timers};
@@ -40,6 +39,7 @@ impl<R: Wait + Clock + Drop + Copy, W: Wake> Timers<R, W> {
     /// Its memory is asked for here, and its polls need none. An error says that there is no timer.
     pub fn interval(&self, period: Duration) -> Result<Interval<R, W>, TimerError>
         ensures period { IfOk result (λ interval. (1 ≤ interval.period) × (interval.period < LAST_TICK → as_nanos period ≤ interval.period * 1_000_000)) }
+        ensures first { IfOk result (λ interval. interval.period ≤ interval.key.when) }
         ensures timers { IfOk result (λ interval. arc_value interval.timers.shared ≡ arc_value self.now.shared) }
     {
         let timers = self.try_clone().ok_or(TimerError::Refused)?;
@@ -72,7 +72,7 @@ impl<R: Wait + Clock + Drop + Copy, W: Wake> Interval<R, W> {
         let mut table = unlocked.lock(&shared.rt);
         let looked = table.poll(&self.key, clone);
         if let Look::Over(_) = looked.look() {
-            let next = self.key.when.saturating_add(self.period);
+            let next = self.key.when().saturating_add(self.period);
             let (before, notice) = table.set(&mut self.key, next);
             drop(table);
             notice.tell(&shared.earlier);

@@ -7,21 +7,18 @@
 
 mod entry;
 mod interval;
-mod looked;
 mod order;
 mod shared;
 mod sleep;
-mod table;
 mod ticks;
 mod timeout;
 mod timers;
 
-pub use entry::{Closing, Due, Elapsed, Entry, Look, Notice, Spare, TimerKey};
+pub use entry::table::{Ended, TimerTable};
+pub use entry::{Closing, Due, Elapsed, Entry, Firing, Look, Looked, Notice, Own, Spare, TimerKey};
 pub use interval::{Interval, Tick};
-pub use looked::Looked;
 pub use shared::Unlocked;
 pub use sleep::{Closed, Sleep};
-pub use table::{Ended, TimerTable};
-pub use ticks::{Firing, Ticks};
+pub use ticks::Ticks;
 pub use timeout::{Refused, Timeout, TimeoutError, Waited};
 pub use timers::{TimerError, Timers};

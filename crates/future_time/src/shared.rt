@@ -1,5 +1,5 @@
 //! What the timers, their futures and their drivers have in common, and what shows that a call does not hold the lock.
-use crate::table::TimerTable;
+use crate::entry::table::TimerTable;
 use crate::ticks::Ticks;
 use std::sync::{Condvar, Mutex, MutexGuard, Wait};
 use std::time::Clock;

@@ -4,8 +4,7 @@ ghost use Rattle.std.specs.Arc.{arc_value};
 ghost use Rattle.std.specs.Time.{instant_nanos};
 ghost use Rattle.future_time.specs.Sleeps.{SleepPolled, IsAfter};
 
-use crate::entry::{Elapsed, TimerKey};
-use crate::looked::own_waker;
+use crate::entry::{Elapsed, TimerKey, own_waker};
 use crate::ticks::LAST_TICK;
 use crate::timers::{TimerError, Timers};
 use std::io;

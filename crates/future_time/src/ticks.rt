@@ -16,16 +16,6 @@ pub struct Ticks {
     pub(crate) start: Instant,
 }
 
-/// The duty to fire each timer that is due at a tick which the clock has reached. It has no `Drop`: it ends where a table has none that is due.
-#[must_use]
-pub struct Firing {
-    pub(crate) tick: u64,
-    pub(crate) start: Instant,
-    pub(crate) now: Instant,
-    // The tick is not after the instant.
-    ghost reached: { tick * 1_000_000 ≤ instant_nanos now - instant_nanos start },
-}
-
 // How many ticks a duration takes, rounded up. One that takes more than can be counted takes the last tick.
 pub(crate) fn ticks_of(duration: Duration) -> u64
     ensures no_less { result < LAST_TICK → as_nanos duration ≤ result * NANOS_PER_TICK }
@@ -44,19 +34,8 @@ impl Ticks {
         ticks_of(deadline.duration_since(self.start))
     }
 
-    // Begins to fire what is due at an instant.
-    pub(crate) fn firing(&self, now: Instant) -> Firing
-        ensures { (result.now ≡ now) × (result.start ≡ self.now.start) }
-    {
-        Firing {
-            tick: self.tick_at(now),
-            start: self.start,
-            now,
-        }
-    }
-
     // The last tick that is not after an instant. It is below the last one of all.
-    fn tick_at(&self, now: Instant) -> u64
+    pub(crate) fn tick_at(&self, now: Instant) -> u64
         ensures not_after { result * NANOS_PER_TICK ≤ instant_nanos now - instant_nanos self.now.start }
         ensures below_last { result < LAST_TICK }
     {

@@ -1,11 +1,11 @@
 //! The timers that threads share, and how they are driven.
-ghost use Rattle.std.specs.Prelude.{◌≡◌, IfOk, IfSome};
+ghost use Rattle.std.specs.Prelude.{◌≡◌, IfErr, IfOk, IfSome};
 ghost use Rattle.std.specs.Arc.{arc_value};
 
-use crate::entry::TimerKey;
+use crate::entry::table::{Ended, TimerTable};
+use crate::entry::{Firing, TimerKey};
 use crate::shared::Shared;
-use crate::table::{Ended, TimerTable};
-use crate::ticks::{Firing, Ticks};
+use crate::ticks::Ticks;
 use std::alloc::{AllocError, Global};
 use std::io;
 use std::sync::{Arc, Wait};
@@ -75,7 +75,9 @@ impl<R: Wait + Clock + Drop + Copy, W: Wake> Timers<R, W> {
     }
 
     // The time on the clock.
-    pub(crate) fn now(&self) -> Result<Instant, TimerError> {
+    pub(crate) fn now(&self) -> Result<Instant, TimerError>
+        ensures { IfErr result (λ error. error ≡ TimerError.Clock) }
+    {
         Instant::now(&self.shared.rt).ok().ok_or(TimerError::Clock)
     }
 
@@ -115,7 +117,7 @@ impl<R: Wait + Clock + Drop + Copy, W: Wake> Timers<R, W> {
     ///
     /// A timer that is made after this call may be due sooner.
     pub fn fire(&self, now: Instant) -> Option<Instant> {
-        self.fire_due(self.shared.ticks.firing(now));
+        self.fire_due(Firing::begin(&self.shared.ticks, now));
         self.next_deadline()
     }
 
@@ -128,10 +130,12 @@ impl<R: Wait + Clock + Drop + Copy, W: Wake> Timers<R, W> {
     /// Drives the timers on this thread until they are closed: sleeps until the next deadline, or until a timer is made that is due sooner.
     ///
     /// `Ok` shows that they were closed. An error says that the clock could not be read: these timers are not driven by this call any more.
-    pub fn run(&self) -> Result<Ended, TimerError> {
+    pub fn run(&self) -> Result<Ended, TimerError>
+        ensures { IfErr result (λ error. error ≡ TimerError.Clock) }
+    {
         for _ in self.shared.rt.forever() {
             let now = self.now()?;
-            self.fire_due(self.shared.ticks.firing(now));
+            self.fire_due(Firing::begin(&self.shared.ticks, now));
             if let Some(ended) = self.rest(now) {
                 return Ok(ended);
             }

@@ -2,10 +2,14 @@
 ghost use Rattle.std.specs.Prelude.{◌≡◌, ◌≢◌, ◌<◌, ◌≤◌, ◌+◌, ◌-◌, ◌^◌, ◌↔◌, ℕ, [], None, Some, true, false, IfOk, IfSome, IsSome, IsTrue, length, ◌⊎◌};
 ghost use Rattle.std.specs.Option.{option_to_list};
 
-use crate::asked::{Answer, Asked};
-use crate::due::{Due, Step, Sweep};
-use crate::line::{Line, Place};
+use super::line::Line;
+use super::{Answer, Asked, Own, Place};
+use crate::due::{Due, Step};
 use std::alloc::{AllocError, Global};
+
+/// The duty to wake all that wait in a line which was closed. It has no `Drop`, and ends only where the line is found empty.
+#[must_use]
+pub struct Sweep(());
 
 /// Permits: those that are free, those that are assigned to a waiter that left the line and has not taken its own yet, and the line.
 #[derive(Drop)]
@@ -123,16 +127,17 @@ impl<W: Drop> Permits<W> {
         Asked::new(Answer::Waits, Some(self.line.renew(index, waker)))
     }
 
-    /// Asks for a permit, for a place and a clone of the waker that it is polled by, or `None` where there is no clone.
+    /// Asks for a permit, for a place and a clone of the waker that it is polled by.
     ///
     /// A place that stands in the line waits on, by this waker. A place that left it takes the permit that was assigned to it. Any other takes a free one, or joins the line at its end.
-    pub fn poll_take(&mut self, place: &mut Place, waker: Option<W>) -> Asked<W>
-        ensures polled { Polled result.answer self.old place.old.number waker self.new place.new.number result.spare }
-        ensures reserved { NotRefused result.answer self.old waker }
+    pub fn poll_take(&mut self, place: &mut Place, own: Own<W>) -> Asked<W>
+        ensures polled { Polled result.answer self.old place.old.number own.waker self.new place.new.number result.spare }
+        ensures reserved { NotRefused result.answer self.old own.waker }
         ensures outside { result.answer ≡ Answer.Taken → place.new.number ≡ None }
-        ensures waits { result.answer ≡ Answer.Waits → IsSome waker }
+        ensures waits { result.answer ≡ Answer.Waits → IsSome own.waker }
         ensures closed { result.answer ≡ Answer.Closed → self.old.closed ≡ true }
     {
+        let Own { waker } = own;
         if let Some(index) = self.line.position(place) {
             return self.renew(index, waker);
         }
@@ -144,6 +149,15 @@ impl<W: Drop> Permits<W> {
             return Asked::new(Answer::Closed, waker);
         }
         self.join(place, waker)
+    }
+
+    /// What who asks is answered where nothing is to be had any more.
+    pub fn none_left(&self, own: Own<W>) -> Asked<W>
+        requires { self.now.closed ≡ true }
+        ensures { (result.answer ≡ Answer.Closed) × (result.spare ≡ own.waker) }
+    {
+        let Own { waker } = own;
+        Asked::new(Answer::Closed, waker)
     }
 
     // Ends a place. True where a permit was assigned to it, which is nowhere now. The waker that waited for it is not needed.
@@ -185,7 +199,7 @@ impl<W: Drop> Permits<W> {
         ensures line { SameLine self.old self.new }
     {
         self.closed = true;
-        Sweep {}
+        Sweep(())
     }
 
     /// A step of a sweep: takes the waiter that came first out of the line, to be woken. Done where none is left.
@@ -196,7 +210,7 @@ impl<W: Drop> Permits<W> {
         match self.line.take_first() {
             Some(waker) => Step::Next(Due::new(Some(waker)), sweep),
             None => {
-                let Sweep {} = sweep;
+                let Sweep(()) = sweep;
                 Step::Done
             }
         }

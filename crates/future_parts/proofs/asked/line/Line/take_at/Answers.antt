@@ -1,6 +1,6 @@
 use Rattle.std.proofs.Common.{length, refl}
 use Rattle.std.proofs.lemmas.Option.{slice_get_read}
-use Rattle.future_parts.proofs.line.Line.take_at.Goals as goal
+use Rattle.future_parts.proofs.asked.line.Line.take_at.Goals as goal
 
 pub returns-clause-waiter : goal.returns-clause-waiter
 returns-clause-waiter g c = (

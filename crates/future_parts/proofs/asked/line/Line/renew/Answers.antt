@@ -1,7 +1,7 @@
 use Rattle.std.proofs.Common.{length, refl, arith}
 use Rattle.std.proofs.lemmas.Option.{slice_get_read}
 use Rattle.std.proofs.lemmas.Grind.{common_steps}
-use Rattle.future_parts.proofs.line.Line.renew.Goals as goal
+use Rattle.future_parts.proofs.asked.line.Line.renew.Goals as goal
 
 pub returns-clause-waiter : goal.returns-clause-waiter
 returns-clause-waiter g c = (

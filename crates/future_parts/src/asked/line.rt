@@ -3,6 +3,7 @@ ghost use Rattle.std.specs.Prelude.{◌≡◌, ◌<◌, ◌≤◌, ◌+◌, ◌^
 ghost use Rattle.std.specs.List.{All, position, remove};
 ghost use Rattle.std.specs.VecDeque.{deque_capacity};
 
+use super::Place;
 use std::alloc::{AllocError, Global};
 use std::collections::VecDeque;
 use std::mem;
@@ -17,27 +18,6 @@ pub struct Waiter<W> {
     pub(crate) waker: W,
 }
 
-/// The place of a future: outside of the line, or with the number under which a waiter joined for it. It has no `Drop`, so a future that goes without giving it up does not compile.
-pub struct Place {
-    pub(crate) number: Option<u64>,
-}
-
-impl Place {
-    /// A place outside of the line.
-    pub fn outside() -> Place
-        ensures { result.number ≡ None }
-    {
-        Place { number: None }
-    }
-
-    // Ends a place that is outside.
-    pub(crate) fn end(self)
-        requires { self.number ≡ None }
-    {
-        let Place { number: _ } = self;
-    }
-}
-
 /// Waiters, the one that came first in front. Memory for some is reserved, and further ones ask for it.
 #[derive(Drop)]
 pub struct Line<W> {
@@ -50,7 +30,7 @@ pub struct Line<W> {
 }
 
 impl<W> Line<W> {
-    ghost use Rattle.future_parts.specs.declared.line.Waiter.{Waiter as AWaiter};
+    ghost use Rattle.future_parts.specs.declared.asked.line.Waiter.{Waiter as AWaiter};
     ghost use Rattle.future_parts.specs.Lines.{waiting, spot, FirstOut};
 
     /// An empty line, with memory for `room` waiters.

@@ -1,6 +1,6 @@
 use Rattle.std.proofs.Common.{length, ap, arith}
 use Rattle.std.proofs.lemmas.List.Edits.{length-remove}
-use Rattle.future_parts.proofs.permits.Permits.end.Goals as goal
+use Rattle.future_parts.proofs.asked.permits.Permits.end.Goals as goal
 
 pub invariant_of-self : goal.invariant_of-self
 invariant_of-self g c =

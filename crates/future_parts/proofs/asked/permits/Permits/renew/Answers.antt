@@ -1,5 +1,5 @@
 use Rattle.std.proofs.Common.{refl, ap, Some, rules}
-use Rattle.future_parts.proofs.permits.Permits.renew.Goals as goal
+use Rattle.future_parts.proofs.asked.permits.Permits.renew.Goals as goal
 
 pub returns-clause-renewed : goal.returns-clause-renewed
 returns-clause-renewed g c =

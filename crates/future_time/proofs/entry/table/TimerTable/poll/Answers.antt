@@ -6,7 +6,7 @@ use Rattle.slab.proofs.SlabLemmas.{Updates-with_value}
 use Rattle.future_time.specs.Tables.{when_of, waker_of}
 use Rattle.future_time.proofs.Wheels.{sets_same}
 use Rattle.future_time.proofs.Entries.{keyed_after, woken_after, fired_after, room_after}
-use Rattle.future_time.proofs.table.TimerTable.poll.Goals as goal
+use Rattle.future_time.proofs.entry.table.TimerTable.poll.Goals as goal
 
 pub invariant_of-self-in-Some-waker : goal.invariant_of-self-in-Some-waker
 invariant_of-self-in-Some-waker g c =

@@ -5,7 +5,7 @@ use Rattle.slab.specs.Slab.{get}
 use Rattle.slab.proofs.SlabLemmas.{Updates-with_value}
 use Rattle.future_time.proofs.Wheels.{each_but}
 use Rattle.future_time.proofs.Entries.{keyed_after, woken_after, fired_after, room_after, due_entry}
-use Rattle.future_time.proofs.table.TimerTable.take_due.Goals as goal
+use Rattle.future_time.proofs.entry.table.TimerTable.take_due.Goals as goal
 
 pub invariant_of-self-in-Some : goal.invariant_of-self-in-Some
 invariant_of-self-in-Some g c =

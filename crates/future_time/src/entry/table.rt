@@ -5,10 +5,9 @@ ghost use Rattle.futures.specs.LinkedLists.Wheel.{deadline_of, key_limit, EachDe
 ghost use Rattle.future_time.specs.Orders.{IsNext};
 ghost use Rattle.future_time.specs.Tables.{when_of, waker_of, IsSeen, TakesWaker};
 
-use crate::entry::{Closing, Due, Elapsed, Entry, Look, Notice, Spare, TimerKey};
-use crate::looked::Looked;
+use super::{Closing, Due, Elapsed, Entry, Firing, Look, Looked, Notice, Own, Spare, TimerKey};
 use crate::order::next_key;
-use crate::ticks::{Firing, LAST_TICK};
+use crate::ticks::LAST_TICK;
 use futures::util::wheel::Wheel;
 use slab::Slab;
 use std::alloc::{AllocError, Global};
@@ -112,7 +111,7 @@ impl<W: Drop> TimerTable<W> {
         ensures kept { (self.new.wheel ≡ self.old.wheel) × (self.new.entries ≡ self.old.entries) × (self.new.reached ≡ self.old.reached) }
     {
         self.closed = true;
-        (Closing {}, Notice { is_due: true })
+        (Closing(()), Notice { is_due: true })
     }
 
     /// Takes out the waker of a timer that still waits, though the timers are closed. `None` says that none waits.
@@ -127,7 +126,7 @@ impl<W: Drop> TimerTable<W> {
         self.closed = true;
         let due = self.take_due(LAST_TICK);
         let Some(due) = due else {
-            let Closing {} = closing;
+            let Closing(()) = closing;
             return None;
         };
         Some((due, closing))
@@ -259,15 +258,16 @@ impl<W: Drop> TimerTable<W> {
         Spare::new(waker)
     }
 
-    /// Looks at a timer for its future. One that waits has `waker` then. A key of other timers finds none, which counts as closed.
-    pub fn poll(&mut self, key: &TimerKey, waker: Option<W>) -> Looked<W>
-        ensures seen { IsSeen self.old.reached self.old.closed (get self.old.entries key.now.key) key.now.when waker result.look }
-        ensures registered { result.look ≡ Look.Waits → waker_of (get self.new.entries key.now.key) ≡ waker }
+    /// Looks at a timer for its future. One that waits has the waker then. A key of other timers finds none, which counts as closed.
+    pub fn poll(&mut self, key: &TimerKey, own: Own<W>) -> Looked<W>
+        ensures seen { IsSeen self.old.reached self.old.closed (get self.old.entries key.now.key) key.now.when own.waker result.look }
+        ensures registered { result.look ≡ Look.Waits → waker_of (get self.new.entries key.now.key) ≡ own.waker }
         ensures armed { result.look ≡ Look.Waits → deadline_of self.new.wheel key.now.key ≡ when_of (get self.new.entries key.now.key) }
         ensures times { (other : ℕ) → when_of (get self.new.entries other) ≡ when_of (get self.old.entries other) }
         ensures others { (other : ℕ) → other ≢ key.now.key → get self.new.entries other ≡ get self.old.entries other }
         ensures kept { (self.new.wheel ≡ self.old.wheel) × (self.new.reached ≡ self.old.reached) × (self.new.closed ≡ self.old.closed) × (self.new.rests_until ≡ self.old.rests_until) }
     {
+        let Own { waker } = own;
         let reached = self.reached;
         let closed = self.closed;
         let Some(entry) = self.entries.get_mut(key.key) else {

@@ -5,7 +5,7 @@ use Rattle.slab.specs.Slab.{get}
 use Rattle.slab.proofs.SlabLemmas.{Updates-with_value}
 use Rattle.future_time.proofs.Wheels.{each_with, each_but}
 use Rattle.future_time.proofs.Entries.{keyed_after, woken_after, fired_after, room_after, told_by}
-use Rattle.future_time.proofs.table.TimerTable.set.Goals as goal
+use Rattle.future_time.proofs.entry.table.TimerTable.set.Goals as goal
 
 pub invariant_of-self-then-waits : goal.invariant_of-self-then-waits
 invariant_of-self-then-waits g c =
