@@ -2,10 +2,12 @@
 ghost use Rattle.std.specs.Prelude.{◌≡◌, ◌≢◌, ◌<◌, ◌≤◌, ◌+◌, ◌⊎◌, [], None, Some, true, false, IfOk, IfErr, IsOk, IfSome, IsSome, length, option_map};
 ghost use Rattle.std.specs.Option.{option_to_list};
 
-use crate::asked::permits::Permits;
+use crate::asked::permits::{Numbers, Permits};
 use crate::asked::{Answer, Asked, Own, Place};
 use crate::due::Due;
+use crate::shared::Begins;
 use std::alloc::{AllocError, Global};
+use std::snapshot::Snapshot;
 
 /// The value of a mutex is out. It has no `Drop`, and ends only where that is put back.
 #[must_use]
@@ -19,6 +21,24 @@ pub struct KeptValue<T, W: Drop> {
     // There is a permit exactly where the value is here.
     ghost one: { permits.free + permits.given ≡ length (option_to_list value) },
     ghost open: { permits.closed ≡ false },
+}
+
+/// The value that a mutex begins with, and for how many waiters there is memory.
+#[derive(Drop)]
+pub struct FirstValue<T> {
+    pub value: Snapshot<Option<T>>,
+    pub numbers: Snapshot<Numbers>,
+}
+
+impl<T: Drop, W: Drop> Begins<FirstValue<T>> for KeptValue<T, W> {
+    ghost begins = { λ state first. (first.value.value ≡ state.value) × (first.numbers.value.room ≡ state.permits.line.room) };
+
+    fn first(&self) -> FirstValue<T> {
+        FirstValue {
+            value: Snapshot::of(&self.value),
+            numbers: self.permits.numbers(),
+        }
+    }
 }
 
 impl<T: Drop, W: Drop> KeptValue<T, W> {

@@ -3,11 +3,13 @@ ghost use Rattle.std.specs.Prelude.{◌≡◌, None, Some, true, is_none, IfOk, 
 ghost use Rattle.std.specs.Arc.{arc_value};
 ghost use Rattle.future_parts.specs.Registering.{made_with, AwaitPolled};
 
+use crate::asked::permits::Numbers;
 use crate::asked::{Answer, Place, own_waker};
 use crate::due::Step;
 use crate::notices::Notices;
 use crate::shared::Shared;
 use std::alloc::{AllocError, Global};
+use std::snapshot::Snapshot;
 use std::sync::{Arc, Wait};
 use task_core::{Future, Poll, Wake, Yields};
 
@@ -15,7 +17,7 @@ use task_core::{Future, Poll, Wake, Yields};
 #[derive(Drop)]
 pub struct Notify<R: Wait + Drop + Copy, W: Wake> {
     rt: R,
-    state: Arc<Shared<Notices<W>>>,
+    state: Arc<Shared<Notices<W>, Snapshot<Numbers>>>,
 }
 
 impl<R: Wait + Drop + Copy, W: Wake> Notify<R, W> {
@@ -23,8 +25,8 @@ impl<R: Wait + Drop + Copy, W: Wake> Notify<R, W> {
     ///
     /// An error says that memory was refused.
     pub fn new(rt: R, alloc: Global, room: usize) -> Result<Notify<R, W>, AllocError>
-        ensures room { IfOk result (λ made. (made_with (arc_value made.state)).permits.line.room ≡ room) }
-        ensures none { IfOk result (λ made. (made_with (arc_value made.state)).permits.free ≡ 0) }
+        ensures room { IfOk result (λ made. (made_with (arc_value made.state)).value.room ≡ room) }
+        ensures none { IfOk result (λ made. (made_with (arc_value made.state)).value.free ≡ 0) }
     {
         let state = Arc::new(alloc, Shared::new(Notices::new(alloc, room)?))?;
         Ok(Notify { rt, state })
@@ -84,7 +86,7 @@ impl<R: Wait + Drop + Copy, W: Wake> Notify<R, W> {
 pub struct Notified<R: Wait + Drop + Copy, W: Wake> {
     rt: R,
     // None once it has answered.
-    state: Option<Arc<Shared<Notices<W>>>>,
+    state: Option<Arc<Shared<Notices<W>, Snapshot<Numbers>>>>,
     place: Place,
     ghost ended: { is_none state ≡ true → place.number ≡ None },
 }

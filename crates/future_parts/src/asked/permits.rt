@@ -6,6 +6,7 @@ use super::line::Line;
 use super::{Answer, Asked, Own, Place};
 use crate::due::{Due, Step};
 use std::alloc::{AllocError, Global};
+use std::snapshot::Snapshot;
 
 /// The duty to wake all that wait in a line which was closed. It has no `Drop`, and ends only where the line is found empty.
 #[must_use]
@@ -25,6 +26,13 @@ pub struct Permits<W: Drop> {
     ghost small: { free + given < 2 ^ 64 },
 }
 
+/// How many permits are free, and for how many waiters there is memory.
+#[derive(Drop)]
+pub struct Numbers {
+    pub free: usize,
+    pub room: usize,
+}
+
 impl<W: Drop> Permits<W> {
     ghost use Rattle.future_parts.specs.Lines.{waiting, spot, FirstOut};
     ghost use Rattle.future_parts.specs.Asking.{Added, SameRest, Same, SameLine, TakenFrom, Joined, Renewed, Polled, SameCounts, LeavesLine, HandedOn, NotRefused, woken_by, Leaves};
@@ -40,6 +48,16 @@ impl<W: Drop> Permits<W> {
             given: 0,
             closed: false,
             line,
+        })
+    }
+
+    // How many permits are free, and for how many waiters there is memory.
+    pub(crate) fn numbers(&self) -> Snapshot<Numbers>
+        ensures { (result.value.free ≡ self.now.free) × (result.value.room ≡ self.now.line.room) }
+    {
+        Snapshot::of(&Numbers {
+            free: self.free,
+            room: self.line.room,
         })
     }
 
