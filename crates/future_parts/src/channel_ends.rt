@@ -14,7 +14,6 @@ use crate::messages::{
 use crate::shared::Shared;
 use std::alloc::{AllocError, Global};
 use std::mem;
-use std::snapshot::Snapshot;
 use std::sync::{Arc, Wait};
 use task_core::{Future, Poll, Wake, Yields};
 
@@ -27,8 +26,8 @@ pub fn channel<R: Wait + Drop + Copy, T: Drop, W: Wake>(
     bound: usize,
     waiters: usize,
 ) -> Result<(Sender<R, T, W>, Receiver<R, T, W>), AllocError>
-    ensures bound { IfOk result (λ ends. (made_with (arc_value ends.0.state)).value.bound ≡ max bound 1) }
-    ensures room { IfOk result (λ ends. ((made_with (arc_value ends.0.state)).value.receivers ≡ waiters) × ((made_with (arc_value ends.0.state)).value.senders ≡ waiters)) }
+    ensures bound { IfOk result (λ ends. (made_with (arc_value ends.0.state)).bound ≡ max bound 1) }
+    ensures room { IfOk result (λ ends. ((made_with (arc_value ends.0.state)).receivers ≡ waiters) × ((made_with (arc_value ends.0.state)).senders ≡ waiters)) }
     ensures one { IfOk result (λ ends. arc_value ends.1.state ≡ arc_value ends.0.state) }
 {
     let state = Arc::new(
@@ -55,7 +54,7 @@ pub fn channel<R: Wait + Drop + Copy, T: Drop, W: Wake>(
 /// Sends messages. It waits for room for one at a time. Where the last sender is gone, the receivers are answered what is left, and then `None`.
 pub struct Sender<R: Wait + Drop + Copy, T: Drop, W: Wake> {
     rt: R,
-    state: Arc<Shared<Messages<T, W>, Snapshot<Bounds>>>,
+    state: Arc<Shared<Messages<T, W>, Bounds>>,
     place: Place,
     end: SenderEnd,
 }
@@ -138,7 +137,7 @@ impl<R: Wait + Drop + Copy, T: Drop, W: Wake> Sender<R, T, W> {
 // Wakes the receivers that wait, once the last sender is gone.
 fn wake_receivers<R: Wait, T: Drop, W: Wake>(
     rt: &R,
-    state: &Shared<Messages<T, W>, Snapshot<Bounds>>,
+    state: &Shared<Messages<T, W>, Bounds>,
     begun: Sweep,
 ) {
     let mut unlocked = state.unlocked();
@@ -202,7 +201,7 @@ impl<R: Wait + Drop + Copy, T: Drop, W: Wake> Future<W> for Sending<'_, R, T, W>
 /// Receives messages, in the order in which they were sent. It waits for one at a time. Where the last receiver is gone, the messages that are left are dropped, and later sends are handed back.
 pub struct Receiver<R: Wait + Drop + Copy, T: Drop, W: Wake> {
     rt: R,
-    state: Arc<Shared<Messages<T, W>, Snapshot<Bounds>>>,
+    state: Arc<Shared<Messages<T, W>, Bounds>>,
     place: Place,
     end: ReceiverEnd,
 }
@@ -274,7 +273,7 @@ impl<R: Wait + Drop + Copy, T: Drop, W: Wake> Receiver<R, T, W> {
 // Wakes the senders that wait, once the last receiver is gone.
 fn wake_senders<R: Wait, T: Drop, W: Wake>(
     rt: &R,
-    state: &Shared<Messages<T, W>, Snapshot<Bounds>>,
+    state: &Shared<Messages<T, W>, Bounds>,
     begun: Sweep,
 ) {
     let mut unlocked = state.unlocked();
@@ -293,10 +292,7 @@ fn wake_senders<R: Wait, T: Drop, W: Wake>(
 }
 
 // Drops the messages that are left once the last receiver is gone, one by one, without the lock.
-fn drop_messages<R: Wait, T: Drop, W: Wake>(
-    rt: &R,
-    state: &Shared<Messages<T, W>, Snapshot<Bounds>>,
-) {
+fn drop_messages<R: Wait, T: Drop, W: Wake>(rt: &R, state: &Shared<Messages<T, W>, Bounds>) {
     let mut unlocked = state.unlocked();
     for _ in rt.forever() {
         let received = unlocked.lock(rt).try_receive();

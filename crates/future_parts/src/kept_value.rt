@@ -7,7 +7,6 @@ use crate::asked::{Answer, Asked, Own, Place};
 use crate::due::Due;
 use crate::shared::Begins;
 use std::alloc::{AllocError, Global};
-use std::snapshot::Snapshot;
 
 /// The value of a mutex is out. It has no `Drop`, and ends only where that is put back.
 #[must_use]
@@ -23,21 +22,11 @@ pub struct KeptValue<T, W: Drop> {
     ghost open: { permits.closed ≡ false },
 }
 
-/// The value that a mutex begins with, and for how many waiters there is memory.
-#[derive(Drop)]
-pub struct FirstValue<T> {
-    pub value: Snapshot<Option<T>>,
-    pub numbers: Snapshot<Numbers>,
-}
+impl<T: Drop, W: Drop> Begins<Numbers> for KeptValue<T, W> {
+    ghost begins = { λ state first. (first.free ≡ state.permits.free) × (first.room ≡ state.permits.line.room) };
 
-impl<T: Drop, W: Drop> Begins<FirstValue<T>> for KeptValue<T, W> {
-    ghost begins = { λ state first. (first.value.value ≡ state.value) × (first.numbers.value.room ≡ state.permits.line.room) };
-
-    fn first(&self) -> FirstValue<T> {
-        FirstValue {
-            value: Snapshot::of(&self.value),
-            numbers: self.permits.numbers(),
-        }
+    fn first(&self) -> Numbers {
+        self.permits.numbers()
     }
 }
 

@@ -7,7 +7,6 @@ use crate::asked::{Answer, Asked, Own, Place};
 use crate::due::Due;
 use crate::shared::Begins;
 use std::alloc::{AllocError, Global};
-use std::snapshot::Snapshot;
 
 /// A permit is lent. It has no `Drop`, and ends only where that is given back.
 #[must_use]
@@ -25,10 +24,10 @@ pub struct Lent<W: Drop> {
     ghost open: { permits.closed ≡ false },
 }
 
-impl<W: Drop> Begins<Snapshot<Numbers>> for Lent<W> {
-    ghost begins = { λ state first. (first.value.free ≡ state.permits.free) × (first.value.room ≡ state.permits.line.room) };
+impl<W: Drop> Begins<Numbers> for Lent<W> {
+    ghost begins = { λ state first. (first.free ≡ state.permits.free) × (first.room ≡ state.permits.line.room) };
 
-    fn first(&self) -> Snapshot<Numbers> {
+    fn first(&self) -> Numbers {
         self.permits.numbers()
     }
 }

@@ -38,7 +38,7 @@ pub use instant::{Pending, Ready};
 pub use joining::Join;
 pub use joining_all::{JoinAll, join_all};
 pub use kept_output::KeptOutput;
-pub use kept_value::{FirstValue, KeptValue, ValueLease};
+pub use kept_value::{KeptValue, ValueLease};
 pub use lent::{Lease, Lent};
 pub use make::{join, pending, race, ready, yield_now};
 pub use messages::{

@@ -9,7 +9,6 @@ use crate::due::{Due, Step};
 use crate::shared::Begins;
 use std::alloc::{AllocError, Global};
 use std::collections::VecDeque;
-use std::snapshot::Snapshot;
 use std::{fmt, io};
 use thiserror::Error;
 
@@ -131,15 +130,15 @@ pub struct Bounds {
     pub senders: usize,
 }
 
-impl<T: Drop, W: Drop> Begins<Snapshot<Bounds>> for Messages<T, W> {
-    ghost begins = { λ state first. (first.value.bound ≡ state.bound) × (first.value.receivers ≡ state.here.line.room) × (first.value.senders ≡ state.room.line.room) };
+impl<T: Drop, W: Drop> Begins<Bounds> for Messages<T, W> {
+    ghost begins = { λ state first. (first.bound ≡ state.bound) × (first.receivers ≡ state.here.line.room) × (first.senders ≡ state.room.line.room) };
 
-    fn first(&self) -> Snapshot<Bounds> {
-        Snapshot::of(&Bounds {
+    fn first(&self) -> Bounds {
+        Bounds {
             bound: self.bound,
             receivers: self.here.line.room,
             senders: self.room.line.room,
-        })
+        }
     }
 }
 

@@ -7,7 +7,6 @@ use crate::asked::{Answer, Asked, Own, Place};
 use crate::due::{Due, Step};
 use crate::shared::Begins;
 use std::alloc::{AllocError, Global};
-use std::snapshot::Snapshot;
 
 /// The duty to wake those that waited when it began: the waiters with a number below a limit. It has no `Drop`, and ends only where none of them comes first.
 #[must_use]
@@ -23,10 +22,10 @@ pub struct Notices<W: Drop> {
     ghost open: { permits.closed ≡ false },
 }
 
-impl<W: Drop> Begins<Snapshot<Numbers>> for Notices<W> {
-    ghost begins = { λ state first. (first.value.free ≡ state.permits.free) × (first.value.room ≡ state.permits.line.room) };
+impl<W: Drop> Begins<Numbers> for Notices<W> {
+    ghost begins = { λ state first. (first.free ≡ state.permits.free) × (first.room ≡ state.permits.line.room) };
 
-    fn first(&self) -> Snapshot<Numbers> {
+    fn first(&self) -> Numbers {
         self.permits.numbers()
     }
 }

@@ -3,7 +3,7 @@ use std::sync::{Mutex, MutexGuard, Wait};
 
 /// A state of which contracts see how it began, by an `N`.
 ///
-/// That says it in plain data, and not as a snapshot of the state: for one that has wakers in it the prover does not find that threads may share the object.
+/// That is plain data, and no snapshot of the state: with one the prover does not find that threads may share the object.
 pub trait Begins<N> {
     // The state begins as this says.
     ghost begins: { Self → N → Type 0 };

@@ -6,7 +6,6 @@ use super::line::Line;
 use super::{Answer, Asked, Own, Place};
 use crate::due::{Due, Step};
 use std::alloc::{AllocError, Global};
-use std::snapshot::Snapshot;
 
 /// The duty to wake all that wait in a line which was closed. It has no `Drop`, and ends only where the line is found empty.
 #[must_use]
@@ -52,13 +51,13 @@ impl<W: Drop> Permits<W> {
     }
 
     // How many permits are free, and for how many waiters there is memory.
-    pub(crate) fn numbers(&self) -> Snapshot<Numbers>
-        ensures { (result.value.free ≡ self.now.free) × (result.value.room ≡ self.now.line.room) }
+    pub(crate) fn numbers(&self) -> Numbers
+        ensures { (result.free ≡ self.now.free) × (result.room ≡ self.now.line.room) }
     {
-        Snapshot::of(&Numbers {
+        Numbers {
             free: self.free,
             room: self.line.room,
-        })
+        }
     }
 
     /// Adds a permit: to the waiter that came first, or to those that are free where none waits.
