@@ -4,10 +4,10 @@ use Rattle.task_core.specs.declared.traits.Poll.TheVariants.{Pending, Ready}
 use Rattle.future_parts.specs.declared.shared.Shared.{Shared}
 use Rattle.future_parts.specs.Messaging.{HandsBack}
 
-module _ {S : Type 0} where
-  -- the state that an object was made with
-  abbrev pub made_with : Shared S → S
-  made_with shared = shared.first.value
+module _ {S N : Type 0} where
+  -- how the state of an object began
+  abbrev pub made_with : Shared S N → N
+  made_with shared = shared.first
 
 module _ {W E T : Type 0} (cloned : W → Result W E → Type 0) (woken_by_ref : W → E → Type 0) where
   -- a poll that is pending made a clone of its waker, or woke it

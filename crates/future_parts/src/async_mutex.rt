@@ -3,6 +3,7 @@ ghost use Rattle.std.specs.Prelude.{◌≡◌, None, Some, true, is_none, IfErr,
 ghost use Rattle.std.specs.Arc.{arc_value};
 ghost use Rattle.future_parts.specs.Registering.{made_with, AwaitPolled};
 
+use crate::asked::permits::Numbers;
 use crate::asked::{Place, own_waker};
 use crate::kept_value::{KeptValue, ValueLease};
 use crate::shared::Shared;
@@ -14,7 +15,7 @@ use task_core::{Future, Poll, Wake, Yields};
 #[derive(Drop)]
 pub struct AsyncMutex<R: Wait + Drop + Copy, T: Drop, W: Wake> {
     rt: R,
-    state: Arc<Shared<KeptValue<T, W>>>,
+    state: Arc<Shared<KeptValue<T, W>, Numbers>>,
 }
 
 impl<R: Wait + Drop + Copy, T: Drop, W: Wake> AsyncMutex<R, T, W> {
@@ -27,8 +28,8 @@ impl<R: Wait + Drop + Copy, T: Drop, W: Wake> AsyncMutex<R, T, W> {
         value: T,
         room: usize,
     ) -> Result<AsyncMutex<R, T, W>, AllocError>
-        ensures value { IfOk result (λ made. (made_with (arc_value made.state)).value ≡ Some value) }
-        ensures room { IfOk result (λ made. (made_with (arc_value made.state)).permits.line.room ≡ room) }
+        ensures free { IfOk result (λ made. (made_with (arc_value made.state)).free ≡ 1) }
+        ensures room { IfOk result (λ made. (made_with (arc_value made.state)).room ≡ room) }
     {
         let state = Arc::new(alloc, Shared::new(KeptValue::new(alloc, value, room)?))?;
         Ok(AsyncMutex { rt, state })
@@ -113,7 +114,7 @@ impl<R: Wait + Drop + Copy, T: Drop, W: Wake> Drop for Guard<R, T, W> {
 pub struct Lock<R: Wait + Drop + Copy, T: Drop, W: Wake> {
     rt: R,
     // None once it has answered.
-    state: Option<Arc<Shared<KeptValue<T, W>>>>,
+    state: Option<Arc<Shared<KeptValue<T, W>, Numbers>>>,
     place: Place,
     ghost ended: { is_none state ≡ true → place.number ≡ None },
 }

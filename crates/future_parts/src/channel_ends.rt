@@ -8,7 +8,8 @@ use crate::asked::permits::Sweep;
 use crate::asked::{Answer, Place, own_waker};
 use crate::due::Step;
 use crate::messages::{
-    Messages, Received, ReceiverEnd, SenderEnd, Sent, TryReceiveError, TrySendError, first_ends,
+    Bounds, Messages, Received, ReceiverEnd, SenderEnd, Sent, TryReceiveError, TrySendError,
+    first_ends,
 };
 use crate::shared::Shared;
 use std::alloc::{AllocError, Global};
@@ -26,7 +27,7 @@ pub fn channel<R: Wait + Drop + Copy, T: Drop, W: Wake>(
     waiters: usize,
 ) -> Result<(Sender<R, T, W>, Receiver<R, T, W>), AllocError>
     ensures bound { IfOk result (λ ends. (made_with (arc_value ends.0.state)).bound ≡ max bound 1) }
-    ensures room { IfOk result (λ ends. ((made_with (arc_value ends.0.state)).here.line.room ≡ waiters) × ((made_with (arc_value ends.0.state)).room.line.room ≡ waiters)) }
+    ensures room { IfOk result (λ ends. ((made_with (arc_value ends.0.state)).receivers ≡ waiters) × ((made_with (arc_value ends.0.state)).senders ≡ waiters)) }
     ensures one { IfOk result (λ ends. arc_value ends.1.state ≡ arc_value ends.0.state) }
 {
     let state = Arc::new(
@@ -53,7 +54,7 @@ pub fn channel<R: Wait + Drop + Copy, T: Drop, W: Wake>(
 /// Sends messages. It waits for room for one at a time. Where the last sender is gone, the receivers are answered what is left, and then `None`.
 pub struct Sender<R: Wait + Drop + Copy, T: Drop, W: Wake> {
     rt: R,
-    state: Arc<Shared<Messages<T, W>>>,
+    state: Arc<Shared<Messages<T, W>, Bounds>>,
     place: Place,
     end: SenderEnd,
 }
@@ -134,7 +135,11 @@ impl<R: Wait + Drop + Copy, T: Drop, W: Wake> Sender<R, T, W> {
 }
 
 // Wakes the receivers that wait, once the last sender is gone.
-fn wake_receivers<R: Wait, T: Drop, W: Wake>(rt: &R, state: &Shared<Messages<T, W>>, begun: Sweep) {
+fn wake_receivers<R: Wait, T: Drop, W: Wake>(
+    rt: &R,
+    state: &Shared<Messages<T, W>, Bounds>,
+    begun: Sweep,
+) {
     let mut unlocked = state.unlocked();
     let mut sweep = begun;
     for _ in rt.forever() {
@@ -196,7 +201,7 @@ impl<R: Wait + Drop + Copy, T: Drop, W: Wake> Future<W> for Sending<'_, R, T, W>
 /// Receives messages, in the order in which they were sent. It waits for one at a time. Where the last receiver is gone, the messages that are left are dropped, and later sends are handed back.
 pub struct Receiver<R: Wait + Drop + Copy, T: Drop, W: Wake> {
     rt: R,
-    state: Arc<Shared<Messages<T, W>>>,
+    state: Arc<Shared<Messages<T, W>, Bounds>>,
     place: Place,
     end: ReceiverEnd,
 }
@@ -266,7 +271,11 @@ impl<R: Wait + Drop + Copy, T: Drop, W: Wake> Receiver<R, T, W> {
 }
 
 // Wakes the senders that wait, once the last receiver is gone.
-fn wake_senders<R: Wait, T: Drop, W: Wake>(rt: &R, state: &Shared<Messages<T, W>>, begun: Sweep) {
+fn wake_senders<R: Wait, T: Drop, W: Wake>(
+    rt: &R,
+    state: &Shared<Messages<T, W>, Bounds>,
+    begun: Sweep,
+) {
     let mut unlocked = state.unlocked();
     let mut sweep = begun;
     for _ in rt.forever() {
@@ -283,7 +292,7 @@ fn wake_senders<R: Wait, T: Drop, W: Wake>(rt: &R, state: &Shared<Messages<T, W>
 }
 
 // Drops the messages that are left once the last receiver is gone, one by one, without the lock.
-fn drop_messages<R: Wait, T: Drop, W: Wake>(rt: &R, state: &Shared<Messages<T, W>>) {
+fn drop_messages<R: Wait, T: Drop, W: Wake>(rt: &R, state: &Shared<Messages<T, W>, Bounds>) {
     let mut unlocked = state.unlocked();
     for _ in rt.forever() {
         let received = unlocked.lock(rt).try_receive();

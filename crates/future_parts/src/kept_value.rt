@@ -2,9 +2,10 @@
 ghost use Rattle.std.specs.Prelude.{◌≡◌, ◌≢◌, ◌<◌, ◌≤◌, ◌+◌, ◌⊎◌, [], None, Some, true, false, IfOk, IfErr, IsOk, IfSome, IsSome, length, option_map};
 ghost use Rattle.std.specs.Option.{option_to_list};
 
-use crate::asked::permits::Permits;
+use crate::asked::permits::{Numbers, Permits};
 use crate::asked::{Answer, Asked, Own, Place};
 use crate::due::Due;
+use crate::shared::Begins;
 use std::alloc::{AllocError, Global};
 
 /// The value of a mutex is out. It has no `Drop`, and ends only where that is put back.
@@ -19,6 +20,14 @@ pub struct KeptValue<T, W: Drop> {
     // There is a permit exactly where the value is here.
     ghost one: { permits.free + permits.given ≡ length (option_to_list value) },
     ghost open: { permits.closed ≡ false },
+}
+
+impl<T: Drop, W: Drop> Begins<Numbers> for KeptValue<T, W> {
+    ghost begins = { λ state first. (first.free ≡ state.permits.free) × (first.room ≡ state.permits.line.room) };
+
+    fn first(&self) -> Numbers {
+        self.permits.numbers()
+    }
 }
 
 impl<T: Drop, W: Drop> KeptValue<T, W> {

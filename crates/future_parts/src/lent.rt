@@ -2,9 +2,10 @@
 ghost use Rattle.std.specs.Prelude.{◌≡◌, ◌≢◌, ◌<◌, ◌≤◌, ◌+◌, ◌-◌, ◌^◌, ◌↔◌, ◌⊎◌, [], None, Some, true, false, IfOk, IfSome, IsSome, IsTrue, length};
 ghost use Rattle.std.specs.Option.{option_to_list};
 
-use crate::asked::permits::Permits;
+use crate::asked::permits::{Numbers, Permits};
 use crate::asked::{Answer, Asked, Own, Place};
 use crate::due::Due;
+use crate::shared::Begins;
 use std::alloc::{AllocError, Global};
 
 /// A permit is lent. It has no `Drop`, and ends only where that is given back.
@@ -21,6 +22,14 @@ pub struct Lent<W: Drop> {
     ghost conserved: { permits.free + permits.given + lent ≡ all },
     ghost small: { all < 2 ^ 64 },
     ghost open: { permits.closed ≡ false },
+}
+
+impl<W: Drop> Begins<Numbers> for Lent<W> {
+    ghost begins = { λ state first. (first.free ≡ state.permits.free) × (first.room ≡ state.permits.line.room) };
+
+    fn first(&self) -> Numbers {
+        self.permits.numbers()
+    }
 }
 
 impl<W: Drop> Lent<W> {

@@ -27,7 +27,7 @@ mod shared;
 mod yielding;
 
 pub use asked::line::{Line, Waiter};
-pub use asked::permits::{Permits, Sweep};
+pub use asked::permits::{Numbers, Permits, Sweep};
 pub use asked::single::{OneReceiverEnd, OneSenderEnd, Single};
 pub use asked::{Answer, Asked, Own, Place};
 pub use async_mutex::{AsyncMutex, Guard, Lock};
@@ -42,12 +42,12 @@ pub use kept_value::{KeptValue, ValueLease};
 pub use lent::{Lease, Lent};
 pub use make::{join, pending, race, ready, yield_now};
 pub use messages::{
-    Messages, Received, ReceiverEnd, SenderEnd, Sent, TryReceiveError, TrySendError,
+    Bounds, Messages, Received, ReceiverEnd, SenderEnd, Sent, TryReceiveError, TrySendError,
 };
 pub use notices::{Notice, Notices};
 pub use notify::{Notified, Notify};
 pub use oneshot_ends::{OneReceiver, OneSender, oneshot};
 pub use racing::{Race, Raced};
 pub use semaphore::{Acquire, Permit, Semaphore};
-pub use shared::{Shared, Unlocked};
+pub use shared::{Begins, Shared, Unlocked};
 pub use yielding::YieldNow;

@@ -6,6 +6,7 @@ ghost use Rattle.std.specs.VecDeque.{deque_capacity};
 use crate::asked::permits::{Permits, Sweep};
 use crate::asked::{Answer, Asked, Own, Place};
 use crate::due::{Due, Step};
+use crate::shared::Begins;
 use std::alloc::{AllocError, Global};
 use std::collections::VecDeque;
 use std::{fmt, io};
@@ -119,6 +120,26 @@ pub struct Messages<T, W: Drop> {
     ghost bounded: { room.free + room.given + length messages.items ≡ bound },
     ghost reserved: { bound ≤ deque_capacity messages },
     ghost small: { bound < 2 ^ 64 },
+}
+
+/// The room of a channel: for messages, and for waiters on each side.
+#[derive(Drop)]
+pub struct Bounds {
+    pub bound: usize,
+    pub receivers: usize,
+    pub senders: usize,
+}
+
+impl<T: Drop, W: Drop> Begins<Bounds> for Messages<T, W> {
+    ghost begins = { λ state first. (first.bound ≡ state.bound) × (first.receivers ≡ state.here.line.room) × (first.senders ≡ state.room.line.room) };
+
+    fn first(&self) -> Bounds {
+        Bounds {
+            bound: self.bound,
+            receivers: self.here.line.room,
+            senders: self.room.line.room,
+        }
+    }
 }
 
 impl<T: Drop, W: Drop> Messages<T, W> {

@@ -2,9 +2,10 @@
 ghost use Rattle.std.specs.Prelude.{◌≡◌, ◌≢◌, ◌<◌, ◌≤◌, ◌+◌, ◌^◌, ◌⊎◌, [], None, Some, true, false, IfOk, IfSome, IsSome, length};
 ghost use Rattle.std.specs.Option.{option_to_list};
 
-use crate::asked::permits::Permits;
+use crate::asked::permits::{Numbers, Permits};
 use crate::asked::{Answer, Asked, Own, Place};
 use crate::due::{Due, Step};
+use crate::shared::Begins;
 use std::alloc::{AllocError, Global};
 
 /// The duty to wake those that waited when it began: the waiters with a number below a limit. It has no `Drop`, and ends only where none of them comes first.
@@ -19,6 +20,14 @@ pub struct Notices<W: Drop> {
     pub(crate) permits: Permits<W>,
     ghost one_is_kept: { permits.free ≤ 1 },
     ghost open: { permits.closed ≡ false },
+}
+
+impl<W: Drop> Begins<Numbers> for Notices<W> {
+    ghost begins = { λ state first. (first.free ≡ state.permits.free) × (first.room ≡ state.permits.line.room) };
+
+    fn first(&self) -> Numbers {
+        self.permits.numbers()
+    }
 }
 
 impl<W: Drop> Notices<W> {

@@ -3,6 +3,7 @@ ghost use Rattle.std.specs.Prelude.{◌≡◌, None, Some, true, is_none, IfOk, 
 ghost use Rattle.std.specs.Arc.{arc_value};
 ghost use Rattle.future_parts.specs.Registering.{made_with, AwaitPolled};
 
+use crate::asked::permits::Numbers;
 use crate::asked::{Answer, Place, own_waker};
 use crate::due::Step;
 use crate::notices::Notices;
@@ -15,7 +16,7 @@ use task_core::{Future, Poll, Wake, Yields};
 #[derive(Drop)]
 pub struct Notify<R: Wait + Drop + Copy, W: Wake> {
     rt: R,
-    state: Arc<Shared<Notices<W>>>,
+    state: Arc<Shared<Notices<W>, Numbers>>,
 }
 
 impl<R: Wait + Drop + Copy, W: Wake> Notify<R, W> {
@@ -23,8 +24,8 @@ impl<R: Wait + Drop + Copy, W: Wake> Notify<R, W> {
     ///
     /// An error says that memory was refused.
     pub fn new(rt: R, alloc: Global, room: usize) -> Result<Notify<R, W>, AllocError>
-        ensures room { IfOk result (λ made. (made_with (arc_value made.state)).permits.line.room ≡ room) }
-        ensures none { IfOk result (λ made. (made_with (arc_value made.state)).permits.free ≡ 0) }
+        ensures room { IfOk result (λ made. (made_with (arc_value made.state)).room ≡ room) }
+        ensures none { IfOk result (λ made. (made_with (arc_value made.state)).free ≡ 0) }
     {
         let state = Arc::new(alloc, Shared::new(Notices::new(alloc, room)?))?;
         Ok(Notify { rt, state })
@@ -84,7 +85,7 @@ impl<R: Wait + Drop + Copy, W: Wake> Notify<R, W> {
 pub struct Notified<R: Wait + Drop + Copy, W: Wake> {
     rt: R,
     // None once it has answered.
-    state: Option<Arc<Shared<Notices<W>>>>,
+    state: Option<Arc<Shared<Notices<W>, Numbers>>>,
     place: Place,
     ghost ended: { is_none state ≡ true → place.number ≡ None },
 }

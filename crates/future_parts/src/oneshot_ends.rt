@@ -38,7 +38,7 @@ pub fn oneshot<R: Wait + Drop + Copy, T: Drop, W: Wake>(
 /// Sends the value. Where it is dropped without, the receiver is answered `None`.
 pub struct OneSender<R: Wait + Drop + Copy, T: Drop, W: Wake> {
     rt: R,
-    state: Arc<Shared<Single<T, W>>>,
+    state: Arc<Shared<Single<T, W>, ()>>,
     // None once the value was sent.
     end: Option<OneSenderEnd>,
 }
@@ -74,7 +74,7 @@ impl<R: Wait + Drop + Copy, T: Drop, W: Wake> Drop for OneSender<R, T, W> {
 /// The future of the value: its output is `None` where the sender is gone without it. Where it is dropped, a value that was sent is dropped with it.
 pub struct OneReceiver<R: Wait + Drop + Copy, T: Drop, W: Wake> {
     rt: R,
-    state: Arc<Shared<Single<T, W>>>,
+    state: Arc<Shared<Single<T, W>, ()>>,
     end: OneReceiverEnd,
 }
 

@@ -3,6 +3,7 @@ ghost use Rattle.std.specs.Prelude.{◌≡◌, None, Some, true, is_none, IfErr,
 ghost use Rattle.std.specs.Arc.{arc_value};
 ghost use Rattle.future_parts.specs.Registering.{made_with, AwaitPolled};
 
+use crate::asked::permits::Numbers;
 use crate::asked::{Place, own_waker};
 use crate::lent::{Lease, Lent};
 use crate::shared::Shared;
@@ -14,7 +15,7 @@ use task_core::{Future, Poll, Wake, Yields};
 #[derive(Drop)]
 pub struct Semaphore<R: Wait + Drop + Copy, W: Wake> {
     rt: R,
-    state: Arc<Shared<Lent<W>>>,
+    state: Arc<Shared<Lent<W>, Numbers>>,
 }
 
 impl<R: Wait + Drop + Copy, W: Wake> Semaphore<R, W> {
@@ -27,8 +28,8 @@ impl<R: Wait + Drop + Copy, W: Wake> Semaphore<R, W> {
         permits: usize,
         room: usize,
     ) -> Result<Semaphore<R, W>, AllocError>
-        ensures permits { IfOk result (λ made. (made_with (arc_value made.state)).permits.free ≡ permits) }
-        ensures room { IfOk result (λ made. (made_with (arc_value made.state)).permits.line.room ≡ room) }
+        ensures permits { IfOk result (λ made. (made_with (arc_value made.state)).free ≡ permits) }
+        ensures room { IfOk result (λ made. (made_with (arc_value made.state)).room ≡ room) }
     {
         let state = Arc::new(alloc, Shared::new(Lent::new(alloc, permits, room)?))?;
         Ok(Semaphore { rt, state })
@@ -87,7 +88,7 @@ impl<R: Wait + Drop + Copy, W: Wake> Drop for Permit<R, W> {
 /// The future of `acquire`.
 pub struct Acquire<R: Wait + Drop + Copy, W: Wake> {
     rt: R,
-    state: Option<Arc<Shared<Lent<W>>>>,
+    state: Option<Arc<Shared<Lent<W>, Numbers>>>,
     place: Place,
     ghost ended: { is_none state ≡ true → place.number ≡ None },
 }

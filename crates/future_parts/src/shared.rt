@@ -1,43 +1,54 @@
-//! A state under a lock, and what shows that a call does not hold that lock.
-ghost use Rattle.std.specs.Prelude.{◌≡◌};
-
-use std::snapshot::Snapshot;
+//! A state under a lock, what contracts see of how it began, and what shows that a call does not hold that lock.
 use std::sync::{Mutex, MutexGuard, Wait};
 
-/// A state under a lock. Contracts see the state that it was made with.
-#[derive(Drop)]
-pub struct Shared<S: Drop> {
-    lock: Mutex<S>,
-    pub(crate) first: Snapshot<S>,
+/// A state of which contracts see how it began, by an `N`.
+///
+/// That is plain data, and no snapshot of the state: with one the prover does not find that threads may share the object.
+pub trait Begins<N> {
+    // The state begins as this says.
+    ghost begins: { Self → N → Type 0 };
+
+    /// How the state begins.
+    fn first(&self) -> N
+        ensures { begins self.now result };
 }
 
-impl<S: Drop> Shared<S> {
+/// A state under a lock, and how it began.
+#[derive(Drop)]
+pub struct Shared<S: Drop, N: Drop> {
+    lock: Mutex<S>,
+    pub(crate) first: N,
+}
+
+impl<N: Drop, S: Begins<N> + Drop> Shared<S, N> {
     /// Puts a state under a lock.
-    pub fn new(state: S) -> Shared<S>
-        ensures { result.first.value ≡ state }
+    pub fn new(state: S) -> Shared<S, N>
+        ensures { S.begins state result.first }
     {
-        let first = Snapshot::of(&state);
+        let first = state.first();
         Shared {
             lock: Mutex::new(state),
             first,
         }
     }
+}
 
+impl<S: Drop, N: Drop> Shared<S, N> {
     // The only way to the lock. A call makes one alone.
     pub(crate) fn unlocked(&self) -> Unlocked<'_, S> {
-        Unlocked { shared: self }
+        Unlocked { lock: &self.lock }
     }
 }
 
 /// Shows that this call does not hold the lock: while it does, this is borrowed. What runs foreign code, a wake or a drop, asks for it.
 #[derive(Drop)]
 pub struct Unlocked<'a, S: Drop> {
-    shared: &'a Shared<S>,
+    lock: &'a Mutex<S>,
 }
 
 impl<S: Drop> Unlocked<'_, S> {
     // Takes the lock.
     pub(crate) fn lock<R: Wait>(&mut self, rt: &R) -> MutexGuard<'_, S> {
-        self.shared.lock.lock(rt)
+        self.lock.lock(rt)
     }
 }

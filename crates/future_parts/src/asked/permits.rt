@@ -25,6 +25,13 @@ pub struct Permits<W: Drop> {
     ghost small: { free + given < 2 ^ 64 },
 }
 
+/// How many permits are free, and for how many waiters there is memory.
+#[derive(Drop)]
+pub struct Numbers {
+    pub free: usize,
+    pub room: usize,
+}
+
 impl<W: Drop> Permits<W> {
     ghost use Rattle.future_parts.specs.Lines.{waiting, spot, FirstOut};
     ghost use Rattle.future_parts.specs.Asking.{Added, SameRest, Same, SameLine, TakenFrom, Joined, Renewed, Polled, SameCounts, LeavesLine, HandedOn, NotRefused, woken_by, Leaves};
@@ -41,6 +48,16 @@ impl<W: Drop> Permits<W> {
             closed: false,
             line,
         })
+    }
+
+    // How many permits are free, and for how many waiters there is memory.
+    pub(crate) fn numbers(&self) -> Numbers
+        ensures { (result.free ≡ self.now.free) × (result.room ≡ self.now.line.room) }
+    {
+        Numbers {
+            free: self.free,
+            room: self.line.room,
+        }
     }
 
     /// Adds a permit: to the waiter that came first, or to those that are free where none waits.

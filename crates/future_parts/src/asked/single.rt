@@ -1,8 +1,9 @@
 //! What a oneshot keeps under its lock: the value once it was sent, and the waker of who waits for it.
-ghost use Rattle.std.specs.Prelude.{◌≡◌, None, Some, true, false, IsTrue, IfOk, IfErr, IsOk, IsSome, Err, is_some, is_none};
+ghost use Rattle.std.specs.Prelude.{◌≡◌, None, Some, true, false, IsTrue, IfOk, IfErr, IsOk, IsSome, Err, is_some, is_none, ⊤};
 
 use super::{Answer, Asked, Own};
 use crate::due::{Due, Spare};
+use crate::shared::Begins;
 use std::mem;
 
 /// The sender of a oneshot is there. It has no `Drop`, and ends only where the state is told that the sender is gone, or gets the value.
@@ -29,6 +30,12 @@ pub struct Single<T, W> {
     pub(crate) receiving: bool,
     // A waker waits only while a value may come, and none is here.
     ghost none_idle: { is_some waker ≡ true → (is_none value ≡ true) × (sending ≡ true) },
+}
+
+impl<T: Drop, W: Drop> Begins<()> for Single<T, W> {
+    ghost begins = { λ _ _. ⊤ };
+
+    fn first(&self) {}
 }
 
 impl<T: Drop, W: Drop> Single<T, W> {
