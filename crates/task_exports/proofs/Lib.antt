@@ -1,5 +1,6 @@
 pub mod Walks
 pub mod Filled
+pub mod Lending
 pub mod Along
 pub mod Live
 pub mod Given
