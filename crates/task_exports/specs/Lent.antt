@@ -11,15 +11,16 @@ use Rattle.task_exports.specs.declared.hand.Lent.{Lent}
 abbrev type_of : {P : Type 0} → (Lent → P) → Type 0
 type_of {P} f = P
 
--- the lifetime for which a share is lent, the part of its token that a call has, and the share
+-- the lifetime for which a share is lent, the part of its token that a call has, the share, and where its owner keeps it
 pub record Loan : Type 0 where
   pub life : Lft
   pub part : Share
   pub lent : Lent
+  pub place : Ptr
 
 -- what a call has: what a `&` to the share has, which can be had any number of times, and its part of the token
-abbrev pub lent : Loan → Ptr → Fml
-lent loan p = fsep (lent_at the_row p loan.lent loan.life) (flft loan.life loan.part)
+abbrev pub lent : Loan → Fml
+lent loan = fsep (lent_at the_row loan.place loan.lent loan.life) (flft loan.life loan.part)
 
 -- what it gives back
 abbrev pub lent_back : Loan → Fml

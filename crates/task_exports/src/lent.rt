@@ -95,11 +95,18 @@ fn bring_gained(lent: &Lent) -> Brings
 #[unsafe(no_mangle)]
 pub extern "C" fn async_task_wake(at: *const u64) -> Brings
     ghost loan: { Loan }
-    requires* { sem 𝓛 (lent loan at) }
+    requires* loan { sem 𝓛 (lent loan) }
+    requires bits { at ≡ loan.lent.share.block.at }
     ensures* back { sem 𝓛 (lent_back loan) }
     ensures answer { (x : Hand) → IsShareOf x loan.lent → Comes (λ k n. Wakes x k n) result.brought.hand result.number }
 {
-    let lent = unsafe { &*(at as *const Lent) };
+    let mut bits = at;
+    let place = &raw mut bits;
+    let lent = unsafe {
+        // The place is taken as that of a share, whose one field with bytes is this pointer.
+        *place = at;
+        &*(place as *const Lent)
+    };
     bring_woken(lent)
 }
 
@@ -107,10 +114,17 @@ pub extern "C" fn async_task_wake(at: *const u64) -> Brings
 #[unsafe(no_mangle)]
 pub extern "C" fn async_task_gain(at: *const u64) -> Brings
     ghost loan: { Loan }
-    requires* { sem 𝓛 (lent loan at) }
+    requires* loan { sem 𝓛 (lent loan) }
+    requires bits { at ≡ loan.lent.share.block.at }
     ensures* back { sem 𝓛 (lent_back loan) }
     ensures answer { (x : Hand) → IsShareOf x loan.lent → Comes (λ k n. Gains x k n) result.brought.hand result.number }
 {
-    let lent = unsafe { &*(at as *const Lent) };
+    let mut bits = at;
+    let place = &raw mut bits;
+    let lent = unsafe {
+        // The place is taken as that of a share, whose one field with bytes is this pointer.
+        *place = at;
+        &*(place as *const Lent)
+    };
     bring_gained(lent)
 }

@@ -1,12 +1,13 @@
--- `async_task_wake` takes what is lent at a pointer as a `&`, and hands it on.
-use Rattle.task_exports.proofs.Walks.{ !, [], ◌∷◌, refl, proved, after, ftrue, flft, named, Val, fact, tables, ‵, raw, ◌⊛◌, some, at_ret, ◌$◌, ◌∵◌, qed, done, move, keep, drop, use1, use2, split, join, fsplit, fjoin, feq_i, pick, suffices, frame, group, enter, of_opd, stop, addr, no_more, first, blocks, exec, returns, alloc_all, pass_all, free_all, look_at, get, through, sets, sets_last, env, yes, shows, Is, Ptr, RattleType, plain, nothing, heard, peeks, in_a_block, id⊢, Stays, walk_of, says, stay_dropped, ends_at}
-use Rattle.task_exports.proofs.Lending.{Bor, Lft, Share, RawPtr, block_ptr, fst∗, snd∗, never, ex_e, sem, fsep, later, await, regoal, prop, and_then, lands_as, rawptr_vals, rawptr_Tells, shr_vals, shared_of, lent_at, calls_at, lasts, ensured, on_entry, triple_of, Goes-dropped, framed, WpFn}
+-- `async_task_wake` makes a `&` to the share that is lent, of a place of its own for its bits, and hands it on.
+use Rattle.task_exports.proofs.LentWalks.{!, [], ◌∷◌, ◌≡◌, refl, proved, after, full_share, ftrue, fat, flft, froom, fdead, fsep, fact, tables, ‵, raw, ◌⊛◌, some, later, await, at_ret, ◌$◌, ◌∵◌, qed, done, move, keep, drop, use0, use1, use2, split, join, fsplit, fjoin, feq_i, pick, rewrite, suffices, frame, group, enter, of_opd, stop, addr, from, forget, init, no_more, and_then, assigns, first, blocks, exec, returns, alloc_all, pass_all, free_all, look_at, get, through, sets, sets_last, take_at, give_at, lands_as, env, yes, shows, Is, Ptr, RawPtr, ptr_val, ty_ptr, rawptr_Lawful, rawptr_vals, rawptr_Tells, block_of, count_of, plain, nothing, heard, peeks, id⊢, Stays, walk_of, says, stay_dropped, Goes-dropped, ends_at, apply∗, wand, sep, snd∗, ex_e, sem, Lft, Share, Bor, shr_vals, shared_of, lent_at, calls_at, lasts, ensured, on_entry, triple_of, framed, lft_new, lft_end, lft-common, common, before, before-Incl, meet_⊑_left, meet_⊑_right}
+use Rattle.task_exports.proofs.Lending.{lent, beside, apart, whole, lends_here, comes_back}
 use Rattle.task_exports.specs.Answers.{Comes, Wakes}
-use Rattle.task_exports.specs.Lent.{IsShareOf, Loan}
+use Rattle.task_exports.specs.Lent.{IsShareOf}
 use Rattle.task_exports.specs.declared.hand.Hand.{Hand}
 use Rattle.task_exports.specs.declared.hand.Lent.{Lent}
 use Rattle.task_exports.specs.declared.bits.Brings.{Brings}
 use Rattle.task_exports.specs.contracts.hand.Lent.{the_row as Row}
+use Rattle.task_exports.proofs.hand.Lent.TheLaws.{the_row_laws as lent_laws}
 use Rattle.task_exports.specs.contracts.bits.Brings.{the_row as Out}
 use Rattle.task_exports.proofs.bits.Brings.TheLaws.{the_row_laws as laws}
 use Rattle.task_exports.specs.contracts.lent.async_task_wake as f
@@ -22,34 +23,57 @@ abbrev Says : Lent → Brings → Type 0
 Says x r = (y : Hand) → IsShareOf y x → Comes (λ k n. Wakes y k n) r.brought.hand r.number
 
 pub async_task_wake_spec : {M : Type 1} → statement M
-async_task_wake_spec 𝓤 𝓛 𝓜 𝓡 wired =
-    let c = f.clauses 𝓛 𝓜.mem 𝓡.returns in let W = walk_of 𝓛 f.ended stayed c in let 𝓣 = tables 𝓤 𝓛.H 𝓜 𝓡 𝓡.env in
+async_task_wake_spec {M} 𝓤 𝓛 𝓜 𝓡 wired =
+    let H = 𝓛.H in let c = f.clauses 𝓛 𝓜.mem 𝓡.returns in let W = walk_of 𝓛 f.ended stayed c in let 𝓣 = tables 𝓤 𝓛.H 𝓜 𝓡 𝓡.env in
     proved 𝓛 f.ended stayed c 𝓜 𝓡 (Goes-dropped 𝓛 0 (plain (λ _. RawPtr)) yes (λ κs x w. refl), tt)
     f.Key.name code.function (code.unfolded 𝓤 𝓛.H 𝓜 𝓡 wired)
     (λ κs. (rawptr_vals, tt)) (λ κs. (rawptr_Tells, tt)) (λ κs qs bounds a loan are.
-    let κ : Lft = loan.life in let q : Share = loan.part in let x : Lent = loan.lent in
-    let y : Ptr → W.Ghost = λ p. ((κs, qs, bounds, (p, tt), (rawptr_vals p, tt)), loan) in
-    qed 𝓛 (raw (on_entry 𝓛 f.signature κs qs a (y a.0).0.4) ∷ ‵ (fsep (lent_at Row a.0 x κ) (flft κ q)) ∷ []) ∵ drop ! $ fsplit ! $
-    in_a_block ! a.0 (λ p. lent_at Row p x κ) (fst∗ 𝓤 (never 𝓤) (sem 𝓛 (shared_of Row x 0 0 κ))) (λ b o e.
-    regoal ! (λ p. prop (WpFn 𝓤 𝓛.H 𝓣.C 𝓣.Λ code.function (rawptr_vals p) (W.post (y p)))) e refl $
-    fsplit ! $ drop ! $
-    enter ! _ _ _ _ _ $ alloc_all ! (λ l. pass_all ! refl ((tt, tt), tt) $
+    let κ : Lft = loan.life in let q : Share = loan.part in let x : Lent = loan.lent in let p : Ptr = a.0 in let bits : Ptr = x.share.block.at in
+    let y : W.Ghost = ((κs, qs, bounds, a, (rawptr_vals p, tt)), loan) in
+    let p_typed = ((rawptr_Lawful 𝓛).typed p (ptr_val p ∷ []) refl).0 in
+    qed 𝓛 (raw (on_entry 𝓛 f.signature κs qs a y.0.4) ∷ ‵ (fsep (lent_at Row loan.place x κ) (flft κ q)) ∷ raw (fact 𝓤 (p ≡ bits)) ∷ []) ∵
+    drop ! $ move ! (1 ∷ []) $ heard ! _ (λ e. fsplit ! $ fsplit ! $ drop ! $
     -- [what a `&` has; the token]
-    first ! $ blocks ! $ sets ! (of_opd ! (get ! refl)) refl (tt, tt) $ sets_last ! (addr ! (through ! refl (stop !))) refl (tt, tt) $
-    exec ! 𝓣.C 𝓣.Λ (env code.Mir.locals l) (after 1 (code.function).body) (at_ret _ (W.post (y (block_ptr b o)))) $
+    enter ! _ _ _ _ _ $ alloc_all ! (λ l. pass_all ! refl (p_typed, tt) $
+    sets ! (of_opd ! (get ! refl)) refl p_typed $ sets ! (addr ! (from ! (stop !))) refl (tt, tt) $
+    -- the place of the bits is room for a share
+    take_at ! 2 $ forget ! 0 refl $
+    use1 𝓛 (‵ (froom lent (l 2) 0) ⊛ raw (wand 𝓤 (H.room lent (l 2) 0) (H.room ty_ptr (l 2) 0))) (𝓛.laws.room_as ty_ptr lent (l 2) 0 refl tt) $ split ! $
+    use1 𝓛 (‵ (froom ty_ptr (l 2) 0) ⊛ beside 𝓛 (l 2)) (apart 𝓛 (l 2)) $ split ! $
+    -- [room for the pointer; what is beside it; the way back; what a `&` has; the token]
+    first ! $ blocks ! $ assigns ! (of_opd ! (get ! refl)) (through ! refl (stop !)) (init ! 0 refl p_typed) $
+    sets ! (of_opd ! (get ! refl)) refl (tt, tt) $ sets_last ! (addr ! (through ! refl (stop !))) refl (tt, tt) $
+    exec ! 𝓣.C 𝓣.Λ (env code.Mir.locals l) (after 3 (code.function).body) (at_ret _ (W.post y)) $
     sets ! (of_opd ! (get ! refl)) refl (tt, tt) $
-    let s : Bor Lent = record { ref_ptr = (b, o); now = x } in
+    -- a lifetime of this call, within the one for which the share is lent
+    lft_new ! tt (λ α. let r : Share = (common full_share q).0 in move ! (0 ∷ 5 ∷ []) $
+    use2 𝓛 (‵ (flft (α ∷ κ) r) ⊛ raw (wand 𝓤 (𝓛.A.lft (α ∷ κ) r) (sep 𝓤 (𝓛.A.lft (α ∷ []) full_share) (𝓛.A.lft κ q)))) (lft-common 𝓛 (α ∷ []) κ full_share q) $ split ! $
+    move ! (5 ∷ []) $ use0 𝓛 (‵ (before (α ∷ κ) κ)) (before-Incl 𝓛 (α ∷ κ) κ (meet_⊑_right (α ∷ []) κ)) $
+    use2 𝓛 (‵ (shared_of Row x (block_of loan.place) (count_of loan.place) (α ∷ κ))) ((lent_laws.shr_laws x (block_of loan.place) (count_of loan.place)).mono M 𝓤 𝓛 (α ∷ κ) κ) $
+    -- the share at its owner's place is its data, and what it has of the cell, which a `&` elsewhere has too
+    fsplit ! $ fsplit ! $ fsplit ! $ fsplit ! $ fsplit ! $ drop ! $ move ! (1 ∷ []) $ drop ! $ move ! (1 ∷ []) $ drop ! $ move ! (1 ∷ []) $ drop ! $ move ! (1 ∷ []) $ drop ! $
+    -- [what it has of the cell; the token; its way back; the pointer; what is beside it; the way back]
+    move ! (0 ∷ 3 ∷ 4 ∷ []) $ rewrite ! 1 (λ (at : Ptr). ‵ (fat full_share ty_ptr (l 2) 0 (ptr_val at))) e refl $
+    lends_here ! tt (l 2) (α ∷ κ) bits $
+    let s : Bor Lent = record { ref_ptr = (l 2, 0); now = x } in
     let G = triple_of 𝓛 g.signature (g.spec 𝓛 𝓜.mem 𝓡.returns) in
-    let z : G.Ghost = (((κ, tt), (q, tt), tt, (s, tt), (shr_vals s, tt)), tt) in
-    feq_i ! _ (shr_vals s) _ refl $ fjoin ! $ nothing ! $ move ! (1 ∷ 0 ∷ []) $ join ! $ nothing ! $ move ! (2 ∷ 0 ∷ []) $ join ! $ join ! $
+    let z : G.Ghost = (((α ∷ κ, tt), (r, tt), tt, (s, tt), (shr_vals s, tt)), tt) in
+    feq_i ! _ (shr_vals s) _ refl $ fjoin ! $ nothing ! $ move ! (1 ∷ 0 ∷ []) $ join ! $ nothing ! $ move ! (3 ∷ 0 ∷ []) $ join ! $ join ! $
     nothing ! $ move ! (1 ∷ 0 ∷ []) $ use2 𝓛 (raw (G.pre z)) (id⊢ 𝓤 _) $
-    calls_at ! (framed 𝓤 𝓛.H 𝓜 𝓣) G (met 𝓤 𝓛 𝓜 𝓡 (code.calls-task_exports::lent::bring_woken 𝓡.env wired)) z
+    calls_at ! (framed 𝓤 H 𝓜 𝓣) G (met 𝓤 𝓛 𝓜 𝓡 (code.calls-task_exports::lent::bring_woken 𝓡.env wired)) z
     (and_then ! (get ! refl) (no_more !)) (λ v.
-    use1 𝓛 (later (some (λ (r : Brings). ((‵ (flft κ q) ⊛ ‵ ftrue) ⊛ ‵ (Out.own_val r (v ∷ []))) ⊛ raw (ensured 𝓛 g.ended (g.clauses 𝓛 𝓜.mem 𝓡.returns) (κ, tt) (s, tt) tt r)))) (id⊢ 𝓤 _) $
-    await ! tt $ pick ! (λ r. split ! $ move ! (1 ∷ []) $
-    use1 𝓛 (raw (fact 𝓤 (Says x r))) (ex_e 𝓤 _ (λ ws. snd∗ 𝓤 (sem 𝓛 (lasts g.ended (κ, tt) (s, tt) ws)) (fact 𝓤 (Says x r)))) $ heard ! _ (λ says_so. split ! $ split ! $
-    -- [the token; nothing; the result]
-    move ! (2 ∷ []) $ peeks ! Out (Is Out) (shows 𝓛 Out) r (v ∷ []) (λ typed. lands_as ! refl refl ((laws.lawful 𝓛).typed r _ typed).0 $
+    use1 𝓛 (later (some (λ (b : Brings). ((‵ (flft (α ∷ κ) r) ⊛ ‵ ftrue) ⊛ ‵ (Out.own_val b (v ∷ []))) ⊛ raw (ensured 𝓛 g.ended (g.clauses 𝓛 𝓜.mem 𝓡.returns) (α ∷ κ, tt) (s, tt) tt b)))) (id⊢ 𝓤 _) $
+    await ! tt $ pick ! (λ b. split ! $ move ! (1 ∷ []) $
+    use1 𝓛 (raw (fact 𝓤 (Says x b))) (ex_e 𝓤 _ (λ ws. snd∗ 𝓤 (sem 𝓛 (lasts g.ended (α ∷ κ, tt) (s, tt) ws)) (fact 𝓤 (Says x b)))) $ heard ! _ (λ says_so. split ! $ split ! $
+    -- [the token; nothing; the result; the rights to the place; the token's way back; the way back]
+    move ! (2 ∷ []) $ peeks ! Out (Is Out) (shows 𝓛 Out) b (v ∷ []) (λ typed. lands_as ! refl refl ((laws.lawful 𝓛).typed b _ typed).0 $
+    move ! (1 ∷ 4 ∷ []) $ use2 𝓛 (‵ (flft (α ∷ []) full_share) ⊛ ‵ (flft κ q)) (apply∗ 𝓤 (𝓛.A.lft (α ∷ κ) r) (sep 𝓤 (𝓛.A.lft (α ∷ []) full_share) (𝓛.A.lft κ q))) $ split ! $
+    lft_end ! tt $ use1 𝓛 (‵ (fdead (α ∷ κ))) (𝓛.lfts.dead-incl (α ∷ κ) (α ∷ []) (meet_⊑_left (α ∷ []) κ)) $
+    -- [the call's lifetime is over; the token; the result; nothing; the rights to the place; the way back]
+    move ! (0 ∷ 4 ∷ []) $ use2 𝓛 (later (‵ (fat full_share ty_ptr (l 2) 0 (ptr_val bits)) ⊛ beside 𝓛 (l 2))) (comes_back 𝓛 (l 2) (α ∷ κ) bits) $ await ! tt $ split ! $
+    move ! (1 ∷ 0 ∷ []) $ use2 𝓛 (‵ (froom lent (l 2) 0)) (whole 𝓛 (l 2) (ptr_val bits)) $
+    move ! (0 ∷ 4 ∷ []) $ use2 𝓛 (‵ (froom ty_ptr (l 2) 0)) (apply∗ 𝓤 (H.room lent (l 2) 0) (H.room ty_ptr (l 2) 0)) $ give_at ! 2 $
+    -- [the token; the result; nothing]
     returns ! (look_at ! 0 refl) $ free_all ! refl $
-    suffices ! _ (ends_at 𝓛 f.ended stayed c (y (block_ptr b o)) v r (tt, tt) (tt, tt)) $ keep ! (0 ∷ 1 ∷ []) $
-    nothing ! $ nothing ! $ join ! $ nothing ! $ group ! 3 $ frame ! $ says ! says_so $ done !)))))))
+    suffices ! _ (ends_at 𝓛 f.ended stayed c y v b (tt, tt) (tt, tt)) $ keep ! (1 ∷ 0 ∷ []) $
+    nothing ! $ nothing ! $ join ! $ nothing ! $ group ! 3 $ frame ! $ says ! says_so $ done !))))))))

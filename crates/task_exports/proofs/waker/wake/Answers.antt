@@ -1,4 +1,4 @@
-use Rattle.task_cell.proofs.Vocabulary.{refl, subst, IfSome}
+use Rattle.task_cell.proofs.Vocabulary.{refl}
 use Rattle.task_exports.proofs.Live.{lives_still}
 use Rattle.task_exports.proofs.waker.wake.Goals as goal
 
