@@ -1,5 +1,5 @@
 -- Room for a pointer is room for a share, whose one field with bytes is a pointer. What lies there is lent as a `&` to a share that its owner lends.
-use Rattle.task_exports.proofs.Walks.{!, List, [], ◌∷◌, refl, full_share, ftrue, fat, froom, fleft, Fml, Ty, ty_ptr, ty_struct, tcons, tnil, Val, vstruct, vcons, vnil, ent, sep, Logic, Ura, ‵, ◌⊛◌, ◌$◌, ◌∵◌, qed, by, move, keep, use1, use2, split, split3, join, nothing, done, ℕ, Item, mean, fjoin, feq_i, fpack, Ptr, ptr_val, cell_at}
+use Rattle.task_exports.proofs.Walks.{ !, List, [], ◌∷◌, refl, full_share, ftrue, fat, froom, fleft, Fml, Ty, ty_ptr, ty_struct, tcons, tnil, Val, vstruct, vcons, vnil, ent, sep, Logic, Ura, ‵, ◌⊛◌, ◌$◌, ◌∵◌, qed, by, move, keep, use1, use2, split, split3, join, nothing, done, ℕ, Item, mean, fjoin, feq_i, fpack, Ptr, ptr_val, cell_at}
 use Rattle.task_exports.proofs.Filled.{nil_val}
 use base.Fml.{Lft, Share, fsep, fex, feq, flent, fdead, fshr_bor}
 use types.Kit.{Goal, Soaks, Step, step, await, later, now, updating, use3}
