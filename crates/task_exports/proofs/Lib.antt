@@ -1,5 +1,7 @@
 pub mod Walks
 pub mod Filled
+pub mod Lending
+pub mod LentWalks
 pub mod Along
 pub mod Live
 pub mod Given

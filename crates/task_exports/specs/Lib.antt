@@ -1,4 +1,5 @@
 pub mod Hands
+pub mod Lent
 pub mod Places
 pub mod Answers
 pub mod Parties

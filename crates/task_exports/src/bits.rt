@@ -50,11 +50,10 @@ pub struct Answer {
     pub left: Left,
 }
 
-/// What an export answers, leaves and brings.
+/// What an export by a share that is lent answers, and brings.
 #[repr(C)]
 pub struct Brings {
     pub number: u32,
-    pub left: Left,
     pub brought: Brought,
 }
 

@@ -46,6 +46,11 @@ pub struct Hand {
     pub party: CellParty,
 }
 
+/// A share of a cell whose owner lends it, for calls by reference.
+pub struct Lent {
+    pub share: CellShare,
+}
+
 /// What a place for a hold has.
 pub struct Grip {
     pub hold: CellHold<(), Elsewhere, (), (), Waits, Global>,

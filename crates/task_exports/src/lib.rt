@@ -16,6 +16,7 @@ pub mod grip;
 pub mod hand;
 pub mod handle;
 pub mod hold;
+pub mod lent;
 pub mod look;
 pub mod poll;
 pub mod poll_exports;

@@ -1,15 +1,16 @@
 //! The calls of a waker.
 ghost use Rattle.std.specs.Prelude.{◌≡◌, ℕ, Option, IfSome, true, false};
 ghost use Rattle.task_cell.specs.Calls.{Stands};
-ghost use Rattle.task_exports.specs.Answers.{Comes, DropsWaker, Gains, IsFull, Puts, Wakes};
+ghost use Rattle.task_exports.specs.Answers.{DropsWaker, Gains, IsFull, Puts, Wakes};
 ghost use Rattle.task_exports.specs.Hands.{IsLive};
 ghost use Rattle.task_exports.specs.Parties.{CellParty, party_in};
 ghost use Rattle.task_steps.specs.Standing.{as_waker};
 
-use crate::answers::{DONE, LAST, LIMIT, MISSED, OVER, SCHEDULE};
-use crate::bits::{Answer, Bits, Brings, bring, bring_none, close, open};
+use crate::answers::{LAST, MISSED, OVER, SCHEDULE};
+use crate::bits::{Answer, Bits, close, open};
 use crate::hand::{Hand, Record};
 use crate::handle::{Handle, put, take};
+use crate::lent::{gain_by, wake_by};
 use crate::schedule::hand_on;
 use task_steps::waker::Dropped;
 
@@ -20,28 +21,9 @@ fn wake(hand: Hand) -> (Hand, Option<(Hand, u32)>)
 {
     let Hand { share, party } = hand;
     let share = share.share();
-    match share.wake_some() {
-        Ok(Ok((brought, runnable))) => {
-            let due = Hand {
-                share: brought.into_maybe(),
-                party: runnable,
-            };
-            let share = share.into_maybe();
-            (Hand { share, party }, Some((due, SCHEDULE)))
-        }
-        Ok(Err(record)) => {
-            let told = Hand {
-                share: share.gone(),
-                party: record,
-            };
-            let share = share.into_maybe();
-            (Hand { share, party }, Some((told, DONE)))
-        }
-        Err(()) => {
-            let share = share.into_maybe();
-            (Hand { share, party }, None)
-        }
-    }
+    let woken = wake_by(&share);
+    let share = share.into_maybe();
+    (Hand { share, party }, woken)
 }
 
 /// Wakes the task as `async_task_wake`, by a handle that lies at `h`: 10, `out` has a Runnable that is to be scheduled; 12, nothing is due, and `out` has the record of the call, which the caller forgets; 0, each try has missed.
@@ -62,35 +44,6 @@ pub fn wake_at(h: &mut Handle, out: &mut Handle) -> u32
     }
 }
 
-/// Wakes the task by a handle that is lent for it: 10, there is a Runnable with the same bits, which is to be scheduled; 12, nothing is due, and what is brought is the record of the call, which the caller forgets; 0, each try has missed.
-#[unsafe(no_mangle)]
-pub extern "C" fn async_task_wake(h: Bits) -> Brings
-    requires handle { IsLive h.hand }
-    ensures lent { IsLive result.left.hand × (result.left.hand.party ≡ h.hand.party) }
-    ensures answer { Comes (λ k n. Wakes h.hand k n) result.brought.hand result.number }
-{
-    let (hand, woken) = wake(open(h));
-    let left = close(hand);
-    match woken {
-        Some((hand, answer)) => {
-            let brought = bring(hand);
-            Brings {
-                number: answer,
-                left,
-                brought,
-            }
-        }
-        None => {
-            let brought = bring_none();
-            Brings {
-                number: MISSED,
-                left,
-                brought,
-            }
-        }
-    }
-}
-
 fn gain(hand: Hand) -> (Hand, Option<(Hand, u32)>)
     requires { IsLive hand }
     ensures lent { IsLive result.0 × (result.0.party ≡ hand.party) }
@@ -98,28 +51,9 @@ fn gain(hand: Hand) -> (Hand, Option<(Hand, u32)>)
 {
     let Hand { share, party } = hand;
     let share = share.share();
-    match share.gain_some() {
-        Ok(Ok((brought, waker))) => {
-            let new = Hand {
-                share: brought.into_maybe(),
-                party: waker,
-            };
-            let share = share.into_maybe();
-            (Hand { share, party }, Some((new, DONE)))
-        }
-        Ok(Err(record)) => {
-            let told = Hand {
-                share: share.gone(),
-                party: record,
-            };
-            let share = share.into_maybe();
-            (Hand { share, party }, Some((told, LIMIT)))
-        }
-        Err(()) => {
-            let share = share.into_maybe();
-            (Hand { share, party }, None)
-        }
-    }
+    let gained = gain_by(&share);
+    let share = share.into_maybe();
+    (Hand { share, party }, gained)
 }
 
 /// Gains a reference as `async_task_gain`, by a handle that lies at `h`: 12, `out` has the waker; 13, the count is at its limit, and `out` has the record of the call, which the caller forgets; 0, each try has missed.
@@ -137,35 +71,6 @@ pub fn gain_at(h: &mut Handle, out: &mut Handle) -> u32
             answer
         }
         None => MISSED,
-    }
-}
-
-/// Gains a reference for a new waker, by a handle that is lent for it: 12, there is the waker, with the same bits; 13, the count is at its limit, and what is brought is the record of the call, which the caller forgets; 0, each try has missed.
-#[unsafe(no_mangle)]
-pub extern "C" fn async_task_gain(h: Bits) -> Brings
-    requires handle { IsLive h.hand }
-    ensures lent { IsLive result.left.hand × (result.left.hand.party ≡ h.hand.party) }
-    ensures answer { Comes (λ k n. Gains h.hand k n) result.brought.hand result.number }
-{
-    let (hand, gained) = gain(open(h));
-    let left = close(hand);
-    match gained {
-        Some((hand, answer)) => {
-            let brought = bring(hand);
-            Brings {
-                number: answer,
-                left,
-                brought,
-            }
-        }
-        None => {
-            let brought = bring_none();
-            Brings {
-                number: MISSED,
-                left,
-                brought,
-            }
-        }
     }
 }
 
