@@ -23,3 +23,6 @@ pub mod EndsCall
 pub mod PollCall
 pub mod DetachCall
 pub mod WakeCall
+pub mod RunCall
+pub mod DiscardCall
+pub mod TaskCall

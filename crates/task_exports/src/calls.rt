@@ -4,6 +4,7 @@
 
 pub mod cancel;
 pub mod detach;
+pub mod discard;
 pub mod ends;
 pub mod poll;
 pub mod waker;

@@ -1,6 +1,7 @@
 //! The exports of a detach, and their steps.
 ghost use Rattle.std.specs.Prelude.{◌≡◌, [], ℕ, Option, true};
 ghost use Rattle.task_cell.specs.Calls.{Stands, StandsWith, deeds};
+ghost use Rattle.task_exports.specs.Answers.{IsFull};
 ghost use Rattle.task_exports.specs.Hands.{IsLive};
 ghost use Rattle.task_exports.specs.Parties.{CellParty, party_in};
 ghost use Rattle.task_exports.specs.TaskAnswers.{Detaches, EndsDetach};
@@ -12,6 +13,7 @@ ghost use Rattle.task_steps.specs.declared.table.Slot.{Slot};
 use crate::answers::{DROP_OUTPUT, LAST, MISSED, OVER, SCHEDULE};
 use crate::bits::{Answer, Bits, close, open};
 use crate::hand::{Hand, Record};
+use crate::handle::{Handle, put, take};
 use crate::schedule::hand_on;
 use task_steps::task::Detached;
 
@@ -57,6 +59,31 @@ fn give_rest_up(hand: Hand) -> (Hand, u32)
     } else {
         (Hand { share, party }, OVER)
     }
+}
+
+/// Gives the Task up that lies at `h`, as `async_task_detach`: the answer, and the record of a party that has handed its share on.
+pub fn detach_at(h: &mut Handle) -> (u32, Option<Record>)
+    requires handle { IsFull h.old }
+    requires party { (n : ℕ) × Stands (as_task n) h.old.hand.party }
+    ensures there { h.new.there ≡ true }
+    ensures path { Detaches h.old.hand h.new.hand (party_in result.1) result.0 }
+{
+    let (hand, answer, ended) = give_up(take(h));
+    put(h, hand);
+    (answer, ended)
+}
+
+/// Goes on as `async_task_detach_dropped`, by the handle that lies at `h`.
+pub fn detach_dropped_at(h: &mut Handle) -> u32
+    requires handle { IsFull h.old }
+    requires party { (z : Slot _ _) × StandsWith OutputCloser (work_first z []) h.old.hand.party }
+    requires closed { saw_closed (deeds h.old.hand.party) ≡ true }
+    ensures there { h.new.there ≡ true }
+    ensures path { EndsDetach h.old.hand h.new.hand result }
+{
+    let (hand, answer) = give_rest_up(take(h));
+    put(h, hand);
+    answer
 }
 
 /// Gives the Task up: 1, the call has ended; 9, it was the last handle; 5, its output is to be dropped, which nobody claimed; 10, an open task has no other handle, and the handle is the Runnable that is to be scheduled.

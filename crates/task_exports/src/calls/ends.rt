@@ -47,3 +47,17 @@ pub(crate) fn empty<A: Wake, C: Caller<A>>(
         _ => None,
     }
 }
+
+// Wakes the awaiter that was taken by a call that has ended.
+pub(crate) fn wake_last<A: Wake>(ended: Record, taken: Option<A>) -> Option<Record>
+    ensures party { IfSome result (λ call. call.party ≡ ended.party) }
+    ensures woken { IfSome result (λ _. (a : A) × (r : A.Record) × A.woken a r) }
+{
+    match taken {
+        Some(awaiter) => {
+            awaiter.wake();
+            Some(ended)
+        }
+        None => None,
+    }
+}
