@@ -132,22 +132,24 @@ fn spawn_row<R: Wait + Drop + Copy>(
 
 // Wakes the tasks of the row where it hands over, and ends the pool where a task is lost.
 fn oversee<R: Clock + Wait + Drop + Copy>(rt: &R, pool: &JobPool<R>, course: &Course) {
-    if course.line == Line::Handoff {
-        hand_over(pool, &course.tally, &course.row);
-    }
-    if !course.tally.wait(rt) {
+    let goes_on = course.line != Line::Handoff || hand_over(rt, pool, &course.tally, &course.row);
+    if !(goes_on && course.tally.wait(rt)) {
         pool.shutdown();
     }
 }
 
-// Wakes the tasks of a row one after the other, each once the one before it has ended.
-fn hand_over<R: Wait + Drop + Copy>(pool: &JobPool<R>, tally: &Tally, row: &Row) {
+// Wakes the tasks of a row one after the other, each once the one before it has ended: false where one is lost.
+fn hand_over<R>(rt: &R, pool: &JobPool<R>, tally: &Tally, row: &Row) -> bool
+where
+    R: Clock + Wait + Drop + Copy,
+{
     for at in 0..row.len() {
         row.wake((pool, pool.workers()), at);
-        if !tally.passes(at as u64) {
-            return;
+        if !tally.passes(rt, at as u64) {
+            return false;
         }
     }
+    true
 }
 
 // As `run`, of tasks that are ready at once, whose outputs this thread awaits in a group while the workers run them.

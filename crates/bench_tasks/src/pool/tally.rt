@@ -17,8 +17,8 @@ const STEP: u64 = 5;
 // So many looks that see no task end say that one is lost: 10 seconds.
 const PATIENCE: u64 = 2000;
 
-// So many looks of a thread that does not sleep say the same.
-const LOOKS: u64 = 100_000_000;
+// A thread that does not sleep looks for so long, in seconds.
+const AWAKE: u64 = 10;
 
 /// How many tasks ended, and how many are to.
 #[derive(Drop)]
@@ -55,15 +55,21 @@ impl Tally {
         self.wanted
     }
 
-    /// Waits, awake, until more than `number` tasks have ended, and answers true; or for very many looks, and answers false.
-    pub fn passes(&self, number: u64) -> bool {
-        for _ in 0..LOOKS {
+    /// Waits, awake, until more than `number` tasks have ended, and answers true; or for a long time, or until the clock fails, and answers false.
+    pub fn passes<R: Clock + Wait>(&self, rt: &R, number: u64) -> bool {
+        let Ok(began) = Instant::now(rt) else {
+            return false;
+        };
+        for _ in rt.forever() {
             if self.ended() > number {
                 return true;
             }
+            if !is_patient(rt, &began) {
+                return false;
+            }
             thread::yield_now();
         }
-        false
+        unreachable!()
     }
 
     /// Sleeps until all tasks have ended, and answers true; or until none has ended for a long time, and answers false.
@@ -86,6 +92,14 @@ impl Tally {
             thread::sleep(rt, Duration::from_millis(STEP));
         }
         unreachable!()
+    }
+}
+
+// Whether a thread that does not sleep may look on. It may not where the clock fails.
+fn is_patient<R: Clock>(rt: &R, began: &Instant) -> bool {
+    match began.elapsed(rt) {
+        Ok(elapsed) => elapsed < Duration::from_secs(AWAKE),
+        Err(_) => false,
     }
 }
 
