@@ -1,6 +1,6 @@
 #!/usr/bin/env python3
 """api.py writes into docs/API.md what each call does: after the call of a line, `Type::name(..)` or `name(..)`, the first sentence of its doc comment, up
-to what is promised, or to be written, and an example in brackets. A line `- of `Type`: ..` or `- others: ..` has names alone. A heading names the
+to what is promised, or to be written, and an example in brackets. A line `- others: ..` has names alone. A heading names the
 crates whose calls stand below it. api.py --check writes nothing: it compares, and looks for calls that are not there.
 """
 import pathlib
@@ -12,7 +12,7 @@ PAGE = HERE / "docs/API.md"
 # what a heading may name beside its crate: the crates whose calls `async_task` hands on
 BELOW = {"async_task": ("async_task", "task_cell")}
 CALL = re.compile(r"(- `(?:(\w+)::)?(\w+)[^`]*`[^:]*:).*?( \*[A-Z][a-z ]*:\* .*| \([^()]*\))?")
-NAMES = re.compile(r"- (?:of `(\w+)`|others): ((?:`[\w:]+`(?:, |$))+)")
+NAMES = re.compile(r"- others: ((?:`[\w:]+`(?:, |$))+)")
 ITEM = re.compile(r"\s*(?:pub )?(?:fn|struct|enum|trait) (\w+)")
 
 
@@ -57,13 +57,12 @@ def filled(text):
     for line in text.splitlines():
         if line.startswith("## "):
             known = {}
-            for crate in re.findall(r"`(\w+)(?:::\w+)?`", line):
+            for crate in re.findall(r"`(\w+)`", line):
                 for below in BELOW.get(crate, (crate,)):
                     known.update(sentences(below))
         names = NAMES.fullmatch(line)
         if names:
-            calls = re.findall(r"`(?:(\w+)::)?(\w+)`", names[2])
-            lost += [name for owner, name in calls if (owner or names[1] or "", name) not in known]
+            lost += [name for owner, name in re.findall(r"`(?:(\w+)::)?(\w+)`", names[1]) if (owner, name) not in known]
         call = CALL.fullmatch(line)
         if call and known and not names:
             sentence = known.get((call[2] or "", call[3]))
