@@ -44,7 +44,8 @@ pub trait Caller<A: Wake> {
 
     /// Takes the output out, which is handed out then, or dropped last.
     fn take_output(&mut self) -> Self::Output
-        ensures fact { did HandOutOutput × did DropOutput };
+        ensures handed_out { did HandOutOutput }
+        ensures dropped { did DropOutput };
 
     /// Empties the awaiter's place: what lay there.
     fn take_awaiter(&mut self) -> Option<A>;

@@ -102,7 +102,7 @@ fn taken<R: Wait + Abort + Drop + Copy, P: Drop, T: Drop, A: Drop>(
 
 // Whether a task is one allocation, of at most these bytes and a head.
 fn fits((allocations, bytes): (u64, u64), values: u64) -> bool {
-    allocations == 1 && bytes <= values + HEAD
+    allocations == 1 && bytes.saturating_sub(values) <= HEAD
 }
 
 // The values that are summed: the larger of future and output, and the awaiter.
