@@ -20,16 +20,16 @@ impl<S, W, V, K, P: BlockRule<S, W, V, K>, T, A: Allocator> Share<S, W, V, K, P,
     /// Exchanges the word, and makes one share more where the number found is one that `M` `counts`. Answers that number, and the share if there is one.
     ///
     /// `seat` steps. The word becomes `new` if it was `old`. The rule has to show that there is one share more exactly where `M` says so, and fewer than 2^62 in all.
-    pub fn gain<M: CountPlay<Place<S, W>, V>>(
+    pub fn gain<M: CountPlay<Place<S, W>, V, K>>(
         &self,
         seat: &mut Seat<S, W, V>,
         old: u64,
         new: u64,
     ) -> (u64, MaybeShare<S, W, V, K, P, T, A>)
         requires block { seat.old.block ≡ self.now.id }
-        requires allowed { Allows (P.holds self.now.key) 2 seat.old.id seat.old.me 0 (λ n. either (n == old) new n) (M.then (step 2 0 old new none) seat.old.me) }
+        requires allowed { Allows (P.holds self.now.key) 2 seat.old.id seat.old.me 0 (λ n. either (n == old) new n) (M.then self.now.key (step 2 0 old new none) seat.old.me) }
         requires shares { More (P.holds self.now.key) P.out seat.old.id seat.old.me.0 (λ n. either (n == old) new n) (M.counts (step 2 0 old new none)) }
-        ensures seat { (seat.new.block ≡ seat.old.block) × (seat.new.id ≡ seat.old.id) × M.then (step 2 0 old new none) seat.old.me result.0 seat.new.me }
+        ensures seat { (seat.new.block ≡ seat.old.block) × (seat.new.id ≡ seat.old.id) × M.then self.now.key (step 2 0 old new none) seat.old.me result.0 seat.new.me }
         ensures share { (result.1.id ≡ self.now.id) × (result.1.key ≡ self.now.key) × (result.1.value ≡ self.now.value) × (result.1.heap ≡ self.now.heap) × (result.1.there ≡ M.counts (step 2 0 old new none) result.0) }
     {
         let found = unsafe { exchange::<Brand>(&raw const (*self.at).word, old, new) };
@@ -43,15 +43,15 @@ impl<S, W, V, K, P: BlockRule<S, W, V, K>, T, A: Allocator> Share<S, W, V, K, P,
     /// Takes `k` from the word, and ends this share where the number found is one that `M` `counts`. Answers that number, and the share if it is left.
     ///
     /// `seat` steps. Where the share ends, another one has to be out still: the last one goes by `close`.
-    pub fn part<M: CountPlay<Place<S, W>, V>>(
+    pub fn part<M: CountPlay<Place<S, W>, V, K>>(
         self,
         seat: &mut Seat<S, W, V>,
         k: u64,
     ) -> (u64, MaybeShare<S, W, V, K, P, T, A>)
         requires block { seat.old.block ≡ self.id }
-        requires allowed { Allows (P.holds self.key) 2 seat.old.id seat.old.me 0 (λ n. (n + (2 ^ 64 - k)) % 2 ^ 64) (M.then (step 2 0 k 0 none) seat.old.me) }
+        requires allowed { Allows (P.holds self.key) 2 seat.old.id seat.old.me 0 (λ n. (n + (2 ^ 64 - k)) % 2 ^ 64) (M.then self.key (step 2 0 k 0 none) seat.old.me) }
         requires shares { Less (P.holds self.key) P.out seat.old.id seat.old.me.0 (λ n. (n + (2 ^ 64 - k)) % 2 ^ 64) (M.counts (step 2 0 k 0 none)) }
-        ensures seat { (seat.new.block ≡ seat.old.block) × (seat.new.id ≡ seat.old.id) × M.then (step 2 0 k 0 none) seat.old.me result.0 seat.new.me }
+        ensures seat { (seat.new.block ≡ seat.old.block) × (seat.new.id ≡ seat.old.id) × M.then self.key (step 2 0 k 0 none) seat.old.me result.0 seat.new.me }
         ensures share { (result.1.id ≡ self.id) × (result.1.key ≡ self.key) × (result.1.value ≡ self.value) × (result.1.heap ≡ self.heap) × (result.1.there ≡ not (M.counts (step 2 0 k 0 none) result.0)) }
     {
         let Share { at, marker: _ } = self;
@@ -66,16 +66,16 @@ impl<S, W, V, K, P: BlockRule<S, W, V, K>, T, A: Allocator> Share<S, W, V, K, P,
     /// Exchanges the word, and ends this share where the number found is one that `M` `counts`. Answers that number, and the share if it is left.
     ///
     /// `seat` steps. The word becomes `new` if it was `old`. Where the share ends, another one has to be out still.
-    pub fn part_exchange<M: CountPlay<Place<S, W>, V>>(
+    pub fn part_exchange<M: CountPlay<Place<S, W>, V, K>>(
         self,
         seat: &mut Seat<S, W, V>,
         old: u64,
         new: u64,
     ) -> (u64, MaybeShare<S, W, V, K, P, T, A>)
         requires block { seat.old.block ≡ self.id }
-        requires allowed { Allows (P.holds self.key) 2 seat.old.id seat.old.me 0 (λ n. either (n == old) new n) (M.then (step 2 0 old new none) seat.old.me) }
+        requires allowed { Allows (P.holds self.key) 2 seat.old.id seat.old.me 0 (λ n. either (n == old) new n) (M.then self.key (step 2 0 old new none) seat.old.me) }
         requires shares { Less (P.holds self.key) P.out seat.old.id seat.old.me.0 (λ n. either (n == old) new n) (M.counts (step 2 0 old new none)) }
-        ensures seat { (seat.new.block ≡ seat.old.block) × (seat.new.id ≡ seat.old.id) × M.then (step 2 0 old new none) seat.old.me result.0 seat.new.me }
+        ensures seat { (seat.new.block ≡ seat.old.block) × (seat.new.id ≡ seat.old.id) × M.then self.key (step 2 0 old new none) seat.old.me result.0 seat.new.me }
         ensures share { (result.1.id ≡ self.id) × (result.1.key ≡ self.key) × (result.1.value ≡ self.value) × (result.1.heap ≡ self.heap) × (result.1.there ≡ not (M.counts (step 2 0 old new none) result.0)) }
     {
         let Share { at, marker: _ } = self;

@@ -22,6 +22,6 @@ pub use bare::Bare;
 pub use hold::Hold;
 pub use inner::Inner;
 pub use place::Place;
-pub use rule::{BlockRule, CountPlay};
+pub use rule::{BlockPlay, BlockRule, CountPlay};
 pub use seat::{Ledger, Seat};
 pub use share::{MaybeShare, Share};

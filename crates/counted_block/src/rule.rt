@@ -1,9 +1,7 @@
 // What the user of a block says of it.
 ghost use Rattle.std.specs.Prelude.{ℕ, Bool};
-ghost use Rattle.atomic_table.specs.Table.{State, Step};
+ghost use Rattle.atomic_table.specs.Table.{Me, State, Step};
 ghost use Rattle.counted_block.specs.declared.place.Place.{Place};
-
-use atomic_table::Play;
 
 /// A rule of one word and two slots, which also says how many shares are out.
 ///
@@ -17,8 +15,14 @@ pub trait BlockRule<S, W, V, K> {
     ghost out: { ℕ → ℕ };
 }
 
+/// What a step tells its caller.
+pub trait BlockPlay<S, V, K> {
+    // By the key of the block, what the step is, the seat before it, the number that it found, and the seat after it.
+    ghost then: { K → Step S → Me S V → ℕ → Me S V → Type 0 };
+}
+
 /// What a step tells its caller, and whether it changes by one how many shares are out.
-pub trait CountPlay<S, V>: Play<S, V> {
+pub trait CountPlay<S, V, K>: BlockPlay<S, V, K> {
     // Whether it does, by the number that the step found in the word.
     ghost counts: { Step S → ℕ → Bool };
 }

@@ -8,8 +8,7 @@ ghost use Rattle.counted_block.specs.Held.{kept_of};
 ghost use Rattle.counted_block.specs.declared.place.Place.{Place};
 
 use crate::place::Place;
-use crate::rule::BlockRule;
-use atomic_table::Play;
+use crate::rule::{BlockPlay, BlockRule};
 use std::alloc::Allocator;
 use std::marker::{Model, PhantomData};
 
@@ -59,10 +58,10 @@ impl<S, W, V, K, P: BlockRule<S, W, V, K>, T, A: Allocator> Ledger<S, W, V, K, P
     /// Changes the view of `seat`, and nothing else: neither the word nor a slot. It is no step of the machine, and costs nothing.
     ///
     /// `M` says what becomes of the view. It is told of some number that the word may have had, which nobody read.
-    pub fn note<M: Play<Place<S, W>, V>>(&self, seat: &mut Seat<S, W, V>)
+    pub fn note<M: BlockPlay<Place<S, W>, V, K>>(&self, seat: &mut Seat<S, W, V>)
         requires block { seat.old.block ≡ self.now.id }
-        requires allowed { Notes (P.holds self.now.key) seat.old.id seat.old.me (M.then (step 2 0 0 0 none) seat.old.me) }
-        ensures { (seat.new.block ≡ seat.old.block) × (seat.new.id ≡ seat.old.id) × ((n : ℕ) × M.then (step 2 0 0 0 none) seat.old.me n seat.new.me) }
+        requires allowed { Notes (P.holds self.now.key) seat.old.id seat.old.me (M.then self.now.key (step 2 0 0 0 none) seat.old.me) }
+        ensures { (seat.new.block ≡ seat.old.block) × (seat.new.id ≡ seat.old.id) × ((n : ℕ) × M.then self.now.key (step 2 0 0 0 none) seat.old.me n seat.new.me) }
     {}
 }
 

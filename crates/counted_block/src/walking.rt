@@ -5,10 +5,10 @@ ghost use Rattle.atomic_table.specs.Table.{step, Allows, Enters, Splits};
 ghost use Rattle.counted_block.specs.Counts.{Same};
 
 use crate::place::Place;
-use crate::rule::BlockRule;
+use crate::rule::{BlockPlay, BlockRule};
 use crate::seat::Seat;
 use crate::share::Share;
-use atomic_table::{Play, Split};
+use atomic_table::Split;
 use std::alloc::Allocator;
 use std::marker::{Brand, PhantomData};
 use std::sync::atomic::Ordering::SeqCst;
@@ -21,19 +21,19 @@ impl<S, W, V, K, P: BlockRule<S, W, V, K>, T, A: Allocator> Share<S, W, V, K, P,
     }
 
     /// Loads the word. `seat` may learn from the number, and may take or give a slot.
-    pub fn load<M: Play<Place<S, W>, V>>(&self, seat: &mut Seat<S, W, V>) -> u64
+    pub fn load<M: BlockPlay<Place<S, W>, V, K>>(&self, seat: &mut Seat<S, W, V>) -> u64
         requires block { seat.old.block ≡ self.now.id }
-        requires allowed { Allows (P.holds self.now.key) 2 seat.old.id seat.old.me 0 (λ n. n) (M.then (step 2 0 0 0 none) seat.old.me) }
+        requires allowed { Allows (P.holds self.now.key) 2 seat.old.id seat.old.me 0 (λ n. n) (M.then self.now.key (step 2 0 0 0 none) seat.old.me) }
         requires shares { Same (P.holds self.now.key) P.out seat.old.id seat.old.me.0 (λ n. n) }
-        ensures { (seat.new.block ≡ seat.old.block) × (seat.new.id ≡ seat.old.id) × M.then (step 2 0 0 0 none) seat.old.me result seat.new.me }
+        ensures { (seat.new.block ≡ seat.old.block) × (seat.new.id ≡ seat.old.id) × M.then self.now.key (step 2 0 0 0 none) seat.old.me result seat.new.me }
     {
         unsafe { raw::load::<Brand>(&raw const (*self.at).word, SeqCst) }
     }
 
     /// Loads the word, and makes a new seat, whose view the rule has to allow whatever the number is.
-    pub fn load_new_seat<M: Play<Place<S, W>, V>>(&self) -> (u64, Seat<S, W, V>)
-        requires allowed { Enters (P.holds self.now.key) 2 0 (λ n w. M.then (step 2 0 0 0 none) (P.first self.now.key, []) n (w, [])) }
-        ensures { (result.1.block ≡ self.now.id) × (result.1.me.1 ≡ []) × M.then (step 2 0 0 0 none) (P.first self.now.key, []) result.0 result.1.me }
+    pub fn load_new_seat<M: BlockPlay<Place<S, W>, V, K>>(&self) -> (u64, Seat<S, W, V>)
+        requires allowed { Enters (P.holds self.now.key) 2 0 (λ n w. M.then self.now.key (step 2 0 0 0 none) (P.first self.now.key, []) n (w, [])) }
+        ensures { (result.1.block ≡ self.now.id) × (result.1.me.1 ≡ []) × M.then self.now.key (step 2 0 0 0 none) (P.first self.now.key, []) result.0 result.1.me }
     {
         let found = unsafe { raw::load::<Brand>(&raw const (*self.at).word, SeqCst) };
         (
@@ -56,31 +56,31 @@ impl<S, W, V, K, P: BlockRule<S, W, V, K>, T, A: Allocator> Share<S, W, V, K, P,
     }
 
     /// Writes `new` into the word. Answers the word as it was.
-    pub fn swap<M: Play<Place<S, W>, V>>(&self, seat: &mut Seat<S, W, V>, new: u64) -> u64
+    pub fn swap<M: BlockPlay<Place<S, W>, V, K>>(&self, seat: &mut Seat<S, W, V>, new: u64) -> u64
         requires block { seat.old.block ≡ self.now.id }
-        requires allowed { Allows (P.holds self.now.key) 2 seat.old.id seat.old.me 0 (λ _. new) (M.then (step 2 0 new 0 none) seat.old.me) }
+        requires allowed { Allows (P.holds self.now.key) 2 seat.old.id seat.old.me 0 (λ _. new) (M.then self.now.key (step 2 0 new 0 none) seat.old.me) }
         requires shares { Same (P.holds self.now.key) P.out seat.old.id seat.old.me.0 (λ _. new) }
-        ensures { (seat.new.block ≡ seat.old.block) × (seat.new.id ≡ seat.old.id) × M.then (step 2 0 new 0 none) seat.old.me result seat.new.me }
+        ensures { (seat.new.block ≡ seat.old.block) × (seat.new.id ≡ seat.old.id) × M.then self.now.key (step 2 0 new 0 none) seat.old.me result seat.new.me }
     {
         unsafe { raw::swap::<Brand>(&raw const (*self.at).word, new, SeqCst) }
     }
 
     /// Keeps the bits of `k` in the word. Answers the word as it was.
-    pub fn fetch_and<M: Play<Place<S, W>, V>>(&self, seat: &mut Seat<S, W, V>, k: u64) -> u64
+    pub fn fetch_and<M: BlockPlay<Place<S, W>, V, K>>(&self, seat: &mut Seat<S, W, V>, k: u64) -> u64
         requires block { seat.old.block ≡ self.now.id }
-        requires allowed { Allows (P.holds self.now.key) 2 seat.old.id seat.old.me 0 (λ n. bit_and n k) (M.then (step 2 0 k 0 none) seat.old.me) }
+        requires allowed { Allows (P.holds self.now.key) 2 seat.old.id seat.old.me 0 (λ n. bit_and n k) (M.then self.now.key (step 2 0 k 0 none) seat.old.me) }
         requires shares { Same (P.holds self.now.key) P.out seat.old.id seat.old.me.0 (λ n. bit_and n k) }
-        ensures { (seat.new.block ≡ seat.old.block) × (seat.new.id ≡ seat.old.id) × M.then (step 2 0 k 0 none) seat.old.me result seat.new.me }
+        ensures { (seat.new.block ≡ seat.old.block) × (seat.new.id ≡ seat.old.id) × M.then self.now.key (step 2 0 k 0 none) seat.old.me result seat.new.me }
     {
         unsafe { raw::fetch_and::<Brand>(&raw const (*self.at).word, k, SeqCst) }
     }
 
     /// Sets the bits of `k` in the word. Answers the word as it was.
-    pub fn fetch_or<M: Play<Place<S, W>, V>>(&self, seat: &mut Seat<S, W, V>, k: u64) -> u64
+    pub fn fetch_or<M: BlockPlay<Place<S, W>, V, K>>(&self, seat: &mut Seat<S, W, V>, k: u64) -> u64
         requires block { seat.old.block ≡ self.now.id }
-        requires allowed { Allows (P.holds self.now.key) 2 seat.old.id seat.old.me 0 (λ n. bit_or n k) (M.then (step 2 0 k 0 none) seat.old.me) }
+        requires allowed { Allows (P.holds self.now.key) 2 seat.old.id seat.old.me 0 (λ n. bit_or n k) (M.then self.now.key (step 2 0 k 0 none) seat.old.me) }
         requires shares { Same (P.holds self.now.key) P.out seat.old.id seat.old.me.0 (λ n. bit_or n k) }
-        ensures { (seat.new.block ≡ seat.old.block) × (seat.new.id ≡ seat.old.id) × M.then (step 2 0 k 0 none) seat.old.me result seat.new.me }
+        ensures { (seat.new.block ≡ seat.old.block) × (seat.new.id ≡ seat.old.id) × M.then self.now.key (step 2 0 k 0 none) seat.old.me result seat.new.me }
     {
         unsafe { raw::fetch_or::<Brand>(&raw const (*self.at).word, k, SeqCst) }
     }

@@ -1,4 +1,5 @@
 -- One round of an attempt: what its load and its exchange leave to the next round, or to the caller.
+use Rattle.task_steps.specs.Values.{Values}
 use Rattle.task_cell.proofs.Vocabulary.{◌≡◌, ℕ, Bool, true, Option, Some, None, List, [], sym, refl, ap, ◌∙◌, subst, ◌==◌, none, Me, step, Allows, State, state_of, number_of, Act, View}
 use Rattle.task_cell.proofs.Vocabulary.{RuleHolds, head_of, Makes, Position, Party, deeds, limit_of, StandsWith, OwesEnd, may_try, looked, missed, Names, having_seen, observed}
 use Rattle.task_cell.proofs.Vocabulary.{attempted, MayTry, HasChanged, HasEnded, HasSeen, TaskPlace}
@@ -38,32 +39,32 @@ module _ {F T A : Type 0} where
   seeing_first w me t names is = record { tries = t; names = names; is = λ i. (is i, me.1) }
 
   -- what the rule allows an attempt, at the seat as it is now
-  pub may_exchange : {Row : Type 0} (limit key slots id other : ℕ) (me now : Me (TaskPlace F T A) View) (change : Attempt Row) (w : State) (old new : ℕ) → key ≡ limit → slots ≡ 2 → other ≡ id → HasSeen w me now
-      → MayTry limit 2 id me change → change.applies limit w ≡ true → old ≡ number_of w → new ≡ number_of (word_after w (acts_on change w))
-      → Allows (RuleHolds {F = F} {T = T} {A = A} key) slots other now 0 (λ n. either (n == old) new n) (attempted change (step slots 0 old new none) now)
-  may_exchange limit key slots id other me now change w old new a b c s may applied from to = subst
-      (λ (z : ℕ × ℕ × ℕ × Me (TaskPlace F T A) View × ℕ × ℕ). Allows (RuleHolds {F = F} {T = T} {A = A} z.0) z.1 z.2 z.3 0 (λ n. either (n == z.4) z.5 n) (attempted change (step z.1 0 z.4 z.5 none) z.3))
+  pub may_exchange : {values : Values F T} {Row : Type 0} (limit key slots id other : ℕ) (me now : Me (TaskPlace F T A) View) (change : Attempt Row) (w : State) (old new : ℕ) → key ≡ limit → slots ≡ 2 → other ≡ id → HasSeen w me now
+      → MayTry values limit 2 id me change → change.applies limit w ≡ true → old ≡ number_of w → new ≡ number_of (word_after w (acts_on change w))
+      → Allows (RuleHolds {A = A} values key) slots other now 0 (λ n. either (n == old) new n) (attempted values change (step slots 0 old new none) now)
+  may_exchange {values = values} limit key slots id other me now change w old new a b c s may applied from to = subst
+      (λ (z : ℕ × ℕ × ℕ × Me (TaskPlace F T A) View × ℕ × ℕ). Allows (RuleHolds {A = A} values z.0) z.1 z.2 z.3 0 (λ n. either (n == z.4) z.5 n) (attempted values change (step z.1 0 z.4 z.5 none) z.3))
       (λ i. (sym a i, sym b i, sym c i, sym s.is i, sym from i, sym to i)) (may.exchanges s.tries w applied s.names)
 
   -- .. and what it does to the shares
-  pub may_more : {Row : Type 0} (limit key id other : ℕ) (me now : Me (TaskPlace F T A) View) (change : Attempt Row) (w : State) (old new : ℕ) → key ≡ limit → other ≡ id → HasSeen w me now
-      → MayBring limit id me change → change.applies limit w ≡ true → old ≡ number_of w → new ≡ number_of (word_after w (acts_on change w))
-      → More (RuleHolds {F = F} {T = T} {A = A} key) shares_out other now.0 (λ n. either (n == old) new n) (counted {S = TaskPlace F T A} (counts_on change) (step 2 0 old new none))
-  may_more limit key id other me now change w old new a b s may applied from to = subst
-      (λ (z : ℕ × ℕ × Me (TaskPlace F T A) View × ℕ × ℕ). More (RuleHolds {F = F} {T = T} {A = A} z.0) shares_out z.1 z.2.0 (λ n. either (n == z.3) z.4 n) (counted {S = TaskPlace F T A} (counts_on change) (step 2 0 z.3 z.4 none)))
+  pub may_more : {values : Values F T} {Row : Type 0} (limit key id other : ℕ) (me now : Me (TaskPlace F T A) View) (change : Attempt Row) (w : State) (old new : ℕ) → key ≡ limit → other ≡ id → HasSeen w me now
+      → MayBring values limit id me change → change.applies limit w ≡ true → old ≡ number_of w → new ≡ number_of (word_after w (acts_on change w))
+      → More (RuleHolds {A = A} values key) shares_out other now.0 (λ n. either (n == old) new n) (counted {S = TaskPlace F T A} (counts_on change) (step 2 0 old new none))
+  may_more {values = values} limit key id other me now change w old new a b s may applied from to = subst
+      (λ (z : ℕ × ℕ × Me (TaskPlace F T A) View × ℕ × ℕ). More (RuleHolds {A = A} values z.0) shares_out z.1 z.2.0 (λ n. either (n == z.3) z.4 n) (counted {S = TaskPlace F T A} (counts_on change) (step 2 0 z.3 z.4 none)))
       (λ i. (sym a i, sym b i, sym s.is i, sym from i, sym to i)) (may s.tries w applied s.names)
 
-  pub may_less : {Row : Type 0} (limit key id other : ℕ) (me now : Me (TaskPlace F T A) View) (change : Attempt Row) (w : State) (old new : ℕ) → key ≡ limit → other ≡ id → HasSeen w me now
-      → MayGive limit id me change → change.applies limit w ≡ true → old ≡ number_of w → new ≡ number_of (word_after w (acts_on change w))
-      → Less (RuleHolds {F = F} {T = T} {A = A} key) shares_out other now.0 (λ n. either (n == old) new n) (counted {S = TaskPlace F T A} (counts_on change) (step 2 0 old new none))
-  may_less limit key id other me now change w old new a b s may applied from to = subst
-      (λ (z : ℕ × ℕ × Me (TaskPlace F T A) View × ℕ × ℕ). Less (RuleHolds {F = F} {T = T} {A = A} z.0) shares_out z.1 z.2.0 (λ n. either (n == z.3) z.4 n) (counted {S = TaskPlace F T A} (counts_on change) (step 2 0 z.3 z.4 none)))
+  pub may_less : {values : Values F T} {Row : Type 0} (limit key id other : ℕ) (me now : Me (TaskPlace F T A) View) (change : Attempt Row) (w : State) (old new : ℕ) → key ≡ limit → other ≡ id → HasSeen w me now
+      → MayGive values limit id me change → change.applies limit w ≡ true → old ≡ number_of w → new ≡ number_of (word_after w (acts_on change w))
+      → Less (RuleHolds {A = A} values key) shares_out other now.0 (λ n. either (n == old) new n) (counted {S = TaskPlace F T A} (counts_on change) (step 2 0 old new none))
+  may_less {values = values} limit key id other me now change w old new a b s may applied from to = subst
+      (λ (z : ℕ × ℕ × Me (TaskPlace F T A) View × ℕ × ℕ). Less (RuleHolds {A = A} values z.0) shares_out z.1 z.2.0 (λ n. either (n == z.3) z.4 n) (counted {S = TaskPlace F T A} (counts_on change) (step 2 0 z.3 z.4 none)))
       (λ i. (sym a i, sym b i, sym s.is i, sym from i, sym to i)) (may s.tries w applied s.names)
 
-  pub may_load : {Row : Type 0} (limit key slots id other : ℕ) (me now : Me (TaskPlace F T A) View) (change : Attempt Row) (w : State) → key ≡ limit → slots ≡ 2 → other ≡ id → HasSeen w me now
-      → MayTry limit 2 id me change → Allows (RuleHolds {F = F} {T = T} {A = A} key) slots other now 0 (λ n. n) (observed change (step slots 0 0 0 none) now)
-  may_load limit key slots id other me now change w a b c s may = subst
-      (λ (z : ℕ × ℕ × ℕ × Me (TaskPlace F T A) View). Allows (RuleHolds {F = F} {T = T} {A = A} z.0) z.1 z.2 z.3 0 (λ n. n) (observed change (step z.1 0 0 0 none) z.3))
+  pub may_load : {values : Values F T} {Row : Type 0} (limit key slots id other : ℕ) (me now : Me (TaskPlace F T A) View) (change : Attempt Row) (w : State) → key ≡ limit → slots ≡ 2 → other ≡ id → HasSeen w me now
+      → MayTry values limit 2 id me change → Allows (RuleHolds {A = A} values key) slots other now 0 (λ n. n) (observed values change (step slots 0 0 0 none) now)
+  may_load {values = values} limit key slots id other me now change w a b c s may = subst
+      (λ (z : ℕ × ℕ × ℕ × Me (TaskPlace F T A) View). Allows (RuleHolds {A = A} values z.0) z.1 z.2 z.3 0 (λ n. n) (observed values change (step z.1 0 0 0 none) z.3))
       (λ i. (sym a i, sym b i, sym c i, sym s.is i)) (may.loads s.tries)
 
   -- the next round, after a load
@@ -91,15 +92,15 @@ module _ {F T A : Type 0} where
   ends_at ends limit n v w me now b same s e is = ap (λ (z : ℕ × State). ends z.0 z.1) (λ i. (ap (λ (m : Me (TaskPlace F T A) View). m.0.limit) s.is i, sym e i)) ∙ (same w ∙ is)
 
   -- what was made of the seat that has seen something was made of the seat
-  made_of : (acts : List Act) (w : State) (t : Option Tries) (me after : Me (TaskPlace F T A) View) → Makes acts w (having_seen t me.0, me.1) after → Makes acts w me after
+  made_of : {values : Values F T} (acts : List Act) (w : State) (t : Option Tries) (me after : Me (TaskPlace F T A) View) → Makes values acts w (having_seen t me.0, me.1) after → Makes values acts w me after
   made_of acts w t me after x = record { slots = x.slots; fits = x.fits; viewed = x.viewed; carried = x.carried }
 
   -- the word ended the attempt
-  pub ended : {Row : Type 0} (limit n : ℕ) (change : Attempt Row) (v w : State) (me now after : Me (TaskPlace F T A) View) → HasSeen v me now → w ≡ state_of n → change.ends limit w ≡ true
-      → Makes (change.acts_at_end (state_of n)) (state_of n) now after → Knows (head_of now.0.members).deeds (state_of n) → HasEnded limit change w me after
-  ended limit n change v w me now after s e over made knows = record {
+  pub ended : {values : Values F T} {Row : Type 0} (limit n : ℕ) (change : Attempt Row) (v w : State) (me now after : Me (TaskPlace F T A) View) → HasSeen v me now → w ≡ state_of n → change.ends limit w ≡ true
+      → Makes values (change.acts_at_end (state_of n)) (state_of n) now after → Knows (head_of now.0.members).deeds (state_of n) → HasEnded values limit change w me after
+  ended {values = values} limit n change v w me now after s e over made knows = record {
     at_end = over;
-    made = made_of (change.acts_at_end w) w s.tries me after (subst (λ (z : State × Me (TaskPlace F T A) View). Makes (change.acts_at_end z.0) z.0 z.1 after) (λ i. (sym e i, s.is i)) made);
+    made = made_of (change.acts_at_end w) w s.tries me after (subst (λ (z : State × Me (TaskPlace F T A) View). Makes values (change.acts_at_end z.0) z.0 z.1 after) (λ i. (sym e i, s.is i)) made);
     knows = subst (λ (z : State × Me (TaskPlace F T A) View). Knows (head_of z.1.0.members).deeds z.0) (λ i. (sym e i, s.is i)) knows;
   }
 
@@ -112,63 +113,63 @@ module _ {F T A : Type 0} where
   pub seen_on : (w : State) (me now : Me (TaskPlace F T A) View) → HasSeen w me now → (t : Option Tries) × Names w t × (now.0 ≡ having_seen t now.0)
   seen_on w me now s = (s.tries, s.names, subst (λ (m : Me (TaskPlace F T A) View). m.0 ≡ having_seen s.tries m.0) (sym s.is) refl)
 
-  pub may_still : {Row : Type 0} (limit key id other : ℕ) (me now : Me (TaskPlace F T A) View) (change : Attempt Row) (w : State) → key ≡ limit → other ≡ id → HasSeen w me now
-      → MayTry limit 2 id me change → MayTry key 2 other now change
-  may_still limit key id other me now change w a e s may = subst (λ (z : ℕ × ℕ × Me (TaskPlace F T A) View). MayTry z.0 2 z.1 z.2 change) (λ i. (sym a i, sym e i, sym s.is i)) (record { loads = may.loads; exchanges = may.exchanges })
+  pub may_still : {values : Values F T} {Row : Type 0} (limit key id other : ℕ) (me now : Me (TaskPlace F T A) View) (change : Attempt Row) (w : State) → key ≡ limit → other ≡ id → HasSeen w me now
+      → MayTry values limit 2 id me change → MayTry values key 2 other now change
+  may_still {values = values} limit key id other me now change w a e s may = subst (λ (z : ℕ × ℕ × Me (TaskPlace F T A) View). MayTry values z.0 2 z.1 z.2 change) (λ i. (sym a i, sym e i, sym s.is i)) (record { loads = may.loads; exchanges = may.exchanges })
 
   -- what the rule allows a party that stands here, by what its change and its end owe
-  pub may_at : {Row : Type 0} (limit : ℕ) (p : Party F T A) (at : Position) (held : List (ℕ × TaskPlace F T A)) → StandsWith at held p → (change : Attempt Row) → ((w : State) → change.ends (limit_of p) w ≡ change.ends limit w)
-      → OwesChange F T A limit change at (deeds p) [] held → OwesEnd F T A limit change at (deeds p) [] held → MayTry limit 2 p.seat.id p.seat.me change
-  may_at limit p at held s change same changes over = subst (λ (m : Me (TaskPlace F T A) View). MayTry limit 2 p.seat.id m change) (sym s) (may_try F T A limit 2 p.seat.id (limit_of p) at (deeds p) [] held change refl changes same over)
+  pub may_at : {values : Values F T} {Row : Type 0} (limit : ℕ) (p : Party F T A) (at : Position) (held : List (ℕ × TaskPlace F T A)) → StandsWith at held p → (change : Attempt Row) → ((w : State) → change.ends (limit_of p) w ≡ change.ends limit w)
+      → OwesChange F T A values limit change at (deeds p) [] held → OwesEnd F T A values limit change at (deeds p) [] held → MayTry values limit 2 p.seat.id p.seat.me change
+  may_at {values = values} limit p at held s change same changes over = subst (λ (m : Me (TaskPlace F T A) View). MayTry values limit 2 p.seat.id m change) (sym s) (may_try F T A values limit 2 p.seat.id (limit_of p) at (deeds p) [] held change refl changes same over)
 
   -- what a later try comes to is what the first one has come to
-  pub changed_after : {Row : Type 0} (limit key : ℕ) (change : Attempt Row) (v : State) (row : Row) (me now after : Me (TaskPlace F T A) View) → key ≡ limit → HasSeen v me now → HasChanged key change row now after → HasChanged limit change row me after
-  changed_after limit key change v row me now after a s c = record {
+  pub changed_after : {values : Values F T} {Row : Type 0} (limit key : ℕ) (change : Attempt Row) (v : State) (row : Row) (me now after : Me (TaskPlace F T A) View) → key ≡ limit → HasSeen v me now → HasChanged values key change row now after → HasChanged values limit change row me after
+  changed_after {values = values} limit key change v row me now after a s c = record {
     word = c.word;
     is = c.is;
     applied = ap (λ l. change.applies l c.word) (sym a) ∙ c.applied;
-    made = made_of (acts_on change c.word) c.word s.tries me after (subst (λ (m : Me (TaskPlace F T A) View). Makes (acts_on change c.word) c.word m after) s.is c.made);
+    made = made_of (acts_on change c.word) c.word s.tries me after (subst (λ (m : Me (TaskPlace F T A) View). Makes values (acts_on change c.word) c.word m after) s.is c.made);
     knows = subst (λ (m : Me (TaskPlace F T A) View). Knows (head_of m.0.members).deeds c.word) s.is c.knows;
   }
 
   -- .. made by an exchange of the word that it names
-  pub changed_by : {Row : Type 0} (limit : ℕ) (change : Attempt Row) (n old new : ℕ) (w : State) (row : Row) (me after : Me (TaskPlace F T A) View) → n ≡ old → old ≡ number_of w → change.applies limit w ≡ true → row ≡ change.row w
-      → attempted change (step 2 0 old new none) me n after → HasChanged limit change row me after
-  changed_by limit change n old new w row me after e is applied found x = let at = ap state_of (e ∙ is) ∙ state_of_number_of w in record {
+  pub changed_by : {values : Values F T} {Row : Type 0} (limit : ℕ) (change : Attempt Row) (n old new : ℕ) (w : State) (row : Row) (me after : Me (TaskPlace F T A) View) → n ≡ old → old ≡ number_of w → change.applies limit w ≡ true → row ≡ change.row w
+      → attempted values change (step 2 0 old new none) me n after → HasChanged values limit change row me after
+  changed_by {values = values} limit change n old new w row me after e is applied found x = let at = ap state_of (e ∙ is) ∙ state_of_number_of w in record {
     word = w;
     is = found;
     applied = applied;
-    made = subst (λ v. Makes (acts_on change v) v me after) at (x.0 e);
+    made = subst (λ v. Makes values (acts_on change v) v me after) at (x.0 e);
     knows = subst (λ v. Knows (head_of me.0.members).deeds v) at x.2;
   }
 
-  pub ended_after : {Row : Type 0} (limit key : ℕ) (change : Attempt Row) (v w : State) (me now after : Me (TaskPlace F T A) View) → key ≡ limit → HasSeen v me now → HasEnded key change w now after → HasEnded limit change w me after
-  ended_after limit key change v w me now after a s c = record {
+  pub ended_after : {values : Values F T} {Row : Type 0} (limit key : ℕ) (change : Attempt Row) (v w : State) (me now after : Me (TaskPlace F T A) View) → key ≡ limit → HasSeen v me now → HasEnded values key change w now after → HasEnded values limit change w me after
+  ended_after {values = values} limit key change v w me now after a s c = record {
     at_end = ap (λ l. change.ends l w) (sym a) ∙ c.at_end;
-    made = made_of (change.acts_at_end w) w s.tries me after (subst (λ (m : Me (TaskPlace F T A) View). Makes (change.acts_at_end w) w m after) s.is c.made);
+    made = made_of (change.acts_at_end w) w s.tries me after (subst (λ (m : Me (TaskPlace F T A) View). Makes values (change.acts_at_end w) w m after) s.is c.made);
     knows = subst (λ (m : Me (TaskPlace F T A) View). Knows (head_of m.0.members).deeds w) s.is c.knows;
   }
 
   -- .. and what it owes for the shares is what was owed before
-  pub bring_still : {Row : Type 0} (limit id other : ℕ) (me now : Me (TaskPlace F T A) View) (change : Attempt Row) (w : State) → other ≡ id → HasSeen w me now → MayBring limit id me change → MayBring limit other now change
-  bring_still limit id other me now change w e s may = subst (λ (z : ℕ × Me (TaskPlace F T A) View). MayBring limit z.0 z.1 change) (λ i. (sym e i, sym s.is i)) (λ t v applied names. may t v applied names)
+  pub bring_still : {values : Values F T} {Row : Type 0} (limit id other : ℕ) (me now : Me (TaskPlace F T A) View) (change : Attempt Row) (w : State) → other ≡ id → HasSeen w me now → MayBring values limit id me change → MayBring values limit other now change
+  bring_still {values = values} limit id other me now change w e s may = subst (λ (z : ℕ × Me (TaskPlace F T A) View). MayBring values limit z.0 z.1 change) (λ i. (sym e i, sym s.is i)) (λ t v applied names. may t v applied names)
 
-  pub give_still : {Row : Type 0} (limit key id other : ℕ) (me now : Me (TaskPlace F T A) View) (change : Attempt Row) (w : State) → key ≡ limit → other ≡ id → HasSeen w me now → MayGive limit id me change → MayGive key other now change
-  give_still limit key id other me now change w a e s may = subst (λ (z : ℕ × ℕ × Me (TaskPlace F T A) View). MayGive z.0 z.1 z.2 change) (λ i. (sym a i, sym e i, sym s.is i)) (λ t v applied names. may t v applied names)
+  pub give_still : {values : Values F T} {Row : Type 0} (limit key id other : ℕ) (me now : Me (TaskPlace F T A) View) (change : Attempt Row) (w : State) → key ≡ limit → other ≡ id → HasSeen w me now → MayGive values limit id me change → MayGive values key other now change
+  give_still {values = values} limit key id other me now change w a e s may = subst (λ (z : ℕ × ℕ × Me (TaskPlace F T A) View). MayGive values z.0 z.1 z.2 change) (λ i. (sym a i, sym e i, sym s.is i)) (λ t v applied names. may t v applied names)
 
   -- what the rule allows a party that stands here, with what its change does to the shares
-  pub may_bring_at : {Row : Type 0} (limit : ℕ) (p : Party F T A) (at : Position) (held : List (ℕ × TaskPlace F T A)) → StandsWith at held p → (change : Attempt Row) → ((w : State) → change.ends (limit_of p) w ≡ change.ends limit w)
-      → OwesChange F T A limit change at (deeds p) [] held → Moves F T A limit Brings change at (deeds p) [] → OwesEnd F T A limit change at (deeds p) [] held
-      → MayTry limit 2 p.seat.id p.seat.me change × MayBring limit p.seat.id p.seat.me change
-  may_bring_at limit p at held s change same changes moves over = (
+  pub may_bring_at : {values : Values F T} {Row : Type 0} (limit : ℕ) (p : Party F T A) (at : Position) (held : List (ℕ × TaskPlace F T A)) → StandsWith at held p → (change : Attempt Row) → ((w : State) → change.ends (limit_of p) w ≡ change.ends limit w)
+      → OwesChange F T A values limit change at (deeds p) [] held → Moves F T A values limit Brings change at (deeds p) [] → OwesEnd F T A values limit change at (deeds p) [] held
+      → MayTry values limit 2 p.seat.id p.seat.me change × MayBring values limit p.seat.id p.seat.me change
+  may_bring_at {values = values} limit p at held s change same changes moves over = (
     may_at limit p at held s change same changes over,
-    subst (λ (m : Me (TaskPlace F T A) View). MayBring limit p.seat.id m change) (sym s) (may_bring F T A limit p.seat.id (limit_of p) at (deeds p) [] held change changes moves),
+    subst (λ (m : Me (TaskPlace F T A) View). MayBring values limit p.seat.id m change) (sym s) (may_bring F T A values limit p.seat.id (limit_of p) at (deeds p) [] held change changes moves),
   )
 
-  pub may_give_at : {Row : Type 0} (limit : ℕ) (p : Party F T A) (at : Position) (held : List (ℕ × TaskPlace F T A)) → StandsWith at held p → (change : Attempt Row) → ((w : State) → change.ends (limit_of p) w ≡ change.ends limit w)
-      → OwesChange F T A limit change at (deeds p) [] held → Moves F T A limit Gives change at (deeds p) [] → OwesEnd F T A limit change at (deeds p) [] held
-      → MayTry limit 2 p.seat.id p.seat.me change × MayGive limit p.seat.id p.seat.me change
-  may_give_at limit p at held s change same changes moves over = (
+  pub may_give_at : {values : Values F T} {Row : Type 0} (limit : ℕ) (p : Party F T A) (at : Position) (held : List (ℕ × TaskPlace F T A)) → StandsWith at held p → (change : Attempt Row) → ((w : State) → change.ends (limit_of p) w ≡ change.ends limit w)
+      → OwesChange F T A values limit change at (deeds p) [] held → Moves F T A values limit Gives change at (deeds p) [] → OwesEnd F T A values limit change at (deeds p) [] held
+      → MayTry values limit 2 p.seat.id p.seat.me change × MayGive values limit p.seat.id p.seat.me change
+  may_give_at {values = values} limit p at held s change same changes moves over = (
     may_at limit p at held s change same changes over,
-    subst (λ (m : Me (TaskPlace F T A) View). MayGive limit p.seat.id m change) (sym s) (may_give F T A limit p.seat.id (limit_of p) at (deeds p) [] held change changes moves),
+    subst (λ (m : Me (TaskPlace F T A) View). MayGive values limit p.seat.id m change) (sym s) (may_give F T A values limit p.seat.id (limit_of p) at (deeds p) [] held change changes moves),
   )

@@ -1,4 +1,5 @@
 -- What a step comes to for the places of the party that made it.
+use Rattle.task_steps.specs.Values.{Values}
 use Rattle.task_cell.proofs.Vocabulary.{◌≡◌, ℕ, Bool, true, false, List, [], ◌∷◌, Option, refl, sym, ap, ◌∙◌, subst, Me, rest, Position, owns_awaiter, Slot, TaskPlace, First, Second, work_first, awaiter_first, Deed, View, Party, has_work, Works, Awaits}
 use Rattle.task_cell.proofs.Vocabulary.{Carries, Carried, DidWith}
 
@@ -17,22 +18,22 @@ module _ {F T A : Type 0} where
   carries_back true q l l' e = e
   carries_back false q l l' e = e
 
-  at : (p q : Position) (l l' : List (ℕ × TaskPlace F T A)) (a b c d : Bool) → has_work p ≡ a → has_work q ≡ b → owns_awaiter p ≡ c → owns_awaiter q ≡ d → Carried p q l l' → Carries a b c d q l l'
+  at : {values : Values F T} (p q : Position) (l l' : List (ℕ × TaskPlace F T A)) (a b c d : Bool) → has_work p ≡ a → has_work q ≡ b → owns_awaiter p ≡ c → owns_awaiter q ≡ d → Carried values p q l l' → Carries a b c d q l l'
   at p q l l' a b c d e f g h x = subst (λ (z : Bool × Bool × Bool × Bool). Carries z.0 z.1 z.2 z.3 q l l') (λ i. (e i, f i, g i, h i)) x
 
-  pub keeps_places : (p q : Position) (l l' : List (ℕ × TaskPlace F T A)) → has_work q ≡ has_work p → owns_awaiter q ≡ owns_awaiter p → Carried p q l l' → l' ≡ l
+  pub keeps_places : {values : Values F T} (p q : Position) (l l' : List (ℕ × TaskPlace F T A)) → has_work q ≡ has_work p → owns_awaiter q ≡ owns_awaiter p → Carried values p q l l' → l' ≡ l
   keeps_places p q l l' e f x = carries_kept (has_work p) (owns_awaiter p) q l l' (at p q l l' (has_work p) (has_work p) (owns_awaiter p) (owns_awaiter p) refl e refl f x)
 
-  pub took_awaiter : (p q : Position) (l l' : List (ℕ × TaskPlace F T A)) → has_work q ≡ has_work p → owns_awaiter p ≡ false → owns_awaiter q ≡ true → Carried p q l l' → (y : Option A) × Awaits q y × (l' ≡ awaiter_first y l)
+  pub took_awaiter : {values : Values F T} (p q : Position) (l l' : List (ℕ × TaskPlace F T A)) → has_work q ≡ has_work p → owns_awaiter p ≡ false → owns_awaiter q ≡ true → Carried values p q l l' → (y : Option A) × Awaits q y × (l' ≡ awaiter_first y l)
   took_awaiter p q l l' e f g x = carries_awaiter (has_work p) q l l' (at p q l l' (has_work p) (has_work p) false true refl e f g x)
 
-  pub gave_awaiter : (p q : Position) (l l' : List (ℕ × TaskPlace F T A)) → has_work q ≡ has_work p → owns_awaiter p ≡ true → owns_awaiter q ≡ false → Carried p q l l' → l' ≡ rest l
+  pub gave_awaiter : {values : Values F T} (p q : Position) (l l' : List (ℕ × TaskPlace F T A)) → has_work q ≡ has_work p → owns_awaiter p ≡ true → owns_awaiter q ≡ false → Carried values p q l l' → l' ≡ rest l
   gave_awaiter p q l l' e f g x = carries_back (has_work p) q l l' (at p q l l' (has_work p) (has_work p) true false refl e f g x)
 
-  pub took_work : (p q : Position) (l l' : List (ℕ × TaskPlace F T A)) → has_work p ≡ false → has_work q ≡ true → Carried p q l l' → Works q l l'
+  pub took_work : {values : Values F T} (p q : Position) (l l' : List (ℕ × TaskPlace F T A)) → has_work p ≡ false → has_work q ≡ true → Carried values p q l l' → Works values q l l'
   took_work p q l l' e f x = at p q l l' false true (owns_awaiter p) (owns_awaiter q) e f refl refl x
 
-  pub gave_work : (p q : Position) (l l' : List (ℕ × TaskPlace F T A)) → has_work p ≡ true → has_work q ≡ false → Carried p q l l' → l' ≡ rest l
+  pub gave_work : {values : Values F T} (p q : Position) (l l' : List (ℕ × TaskPlace F T A)) → has_work p ≡ true → has_work q ≡ false → Carried values p q l l' → l' ≡ rest l
   gave_work p q l l' e f x = at p q l l' true false (owns_awaiter p) (owns_awaiter q) e f refl refl x
 
   -- another value is put into the place in front, which has the number k and such a value

@@ -1,4 +1,5 @@
 -- What the steps of a notifier come to.
+use Rattle.task_steps.specs.Values.{Values}
 use Rattle.task_cell.proofs.Vocabulary.{◌≡◌, ℕ, Bool, true, false, not, ◌&&◌, ◌||◌, List, [], ◌∷◌, Option, Some, None, refl, sym, ap, ◌∙◌, subst, if◌then◌else◌, State, NotifyingCall, Notifier}
 use Rattle.task_cell.proofs.Vocabulary.{Releaser, MissNotify, BeginNotify, TakeAwaiter, EndNotify, after_taking, TaskPlace, Deed, Party, Waits, Makes, taking_awaiter, releasing_awaiter}
 use Rattle.task_cell.proofs.Vocabulary.{awaiter_first, held, is_some, Fits, position, places_of, StandsWith, DidWith, Notifies, misses, finds_none, takes_awaiter, row, act, way_of, on_work, on_free, same_way, arith}
@@ -25,17 +26,17 @@ module _ {F T A : Type 0} where
   as_said p q path hand way held s g = subst (λ (z : NotifyingCall × List (ℕ × TaskPlace F T A)). DidWith path (after_taking hand z.0) z.1 p q)
       (λ i. (sym (ap way_of (moved.position_is p (Notifier way) held s)) i, sym (moved.held_is p (Notifier way) held s) i)) g
 
-  pub missed : (way : NotifyingCall) (held : List (ℕ × TaskPlace F T A)) (p q : Party F T A) (w : State) → StandsWith (Notifier way) held p → q.seat.block ≡ p.seat.block
-      → Makes (taking_awaiter w) w p.seat.me q.seat.me → (w.notifying || w.registering) ≡ true → BeginsNotify p q false
-  missed way held p q w s cell made is =
-      let m = moved.moved (MissNotify ∷ []) w (Notifier way) held p q s (subst (λ b. Makes (if b then MissNotify ∷ [] else BeginNotify ∷ TakeAwaiter ∷ []) w p.seat.me q.seat.me) is made) in
+  pub missed : {values : Values F T} (way : NotifyingCall) (held : List (ℕ × TaskPlace F T A)) (p q : Party F T A) (w : State) → StandsWith (Notifier way) held p → q.seat.block ≡ p.seat.block
+      → Makes values (taking_awaiter w) w p.seat.me q.seat.me → (w.notifying || w.registering) ≡ true → BeginsNotify p q false
+  missed {values = values} way held p q w s cell made is =
+      let m = moved.moved (MissNotify ∷ []) w (Notifier way) held p q s (subst (λ b. Makes values (if b then MissNotify ∷ [] else BeginNotify ∷ TakeAwaiter ∷ []) w p.seat.me q.seat.me) is made) in
       finds_another w is (as_said p q (row MissNotify w ∷ []) None way held s (moved.did p q (row MissNotify w ∷ []) (after_taking None way) held cell m.viewed
       (keeps_places (Notifier way) (after_taking None way) held q.seat.me.1 (on_work None way) (on_free None way) m.carried)))
 
-  pub taken : (way : NotifyingCall) (held : List (ℕ × TaskPlace F T A)) (p q : Party F T A) (w : State) → StandsWith (Notifier way) held p → q.seat.block ≡ p.seat.block
-      → Makes (taking_awaiter w) w p.seat.me q.seat.me → (w.notifying || w.registering) ≡ false → BeginsNotify p q true
-  taken way held p q w s cell made is =
-      let m = moved.moved (BeginNotify ∷ TakeAwaiter ∷ []) w (Notifier way) held p q s (subst (λ b. Makes (if b then MissNotify ∷ [] else BeginNotify ∷ TakeAwaiter ∷ []) w p.seat.me q.seat.me) is made) in
+  pub taken : {values : Values F T} (way : NotifyingCall) (held : List (ℕ × TaskPlace F T A)) (p q : Party F T A) (w : State) → StandsWith (Notifier way) held p → q.seat.block ≡ p.seat.block
+      → Makes values (taking_awaiter w) w p.seat.me q.seat.me → (w.notifying || w.registering) ≡ false → BeginsNotify p q true
+  taken {values = values} way held p q w s cell made is =
+      let m = moved.moved (BeginNotify ∷ TakeAwaiter ∷ []) w (Notifier way) held p q s (subst (λ b. Makes values (if b then MissNotify ∷ [] else BeginNotify ∷ TakeAwaiter ∷ []) w p.seat.me q.seat.me) is made) in
       let hand : Option ℕ = m.slots.awaiter in
       let y = took_awaiter (Notifier way) (Releaser hand way) held q.seat.me.1 (same_way hand way) refl refl m.carried in
       let did = moved.did p q (row BeginNotify w ∷ act TakeAwaiter ∷ []) (Releaser hand way) (awaiter_first y.0 held) cell m.viewed y.2 in
@@ -44,8 +45,8 @@ module _ {F T A : Type 0} where
       (λ i. (sym (ap way_of (moved.position_is p (Notifier way) held s)) i, sym (moved.held_is p (Notifier way) held s) i)) did)
 
   -- a notifier that has taken the place, or has found another party at it
-  pub begun : (way : NotifyingCall) (held : List (ℕ × TaskPlace F T A)) (p q : Party F T A) (w : State) (b c : Bool) → StandsWith (Notifier way) held p → q.seat.block ≡ p.seat.block
-      → Makes (taking_awaiter w) w p.seat.me q.seat.me → c ≡ not (w.notifying || w.registering) → b ≡ c → BeginsNotify p q b
+  pub begun : {values : Values F T} (way : NotifyingCall) (held : List (ℕ × TaskPlace F T A)) (p q : Party F T A) (w : State) (b c : Bool) → StandsWith (Notifier way) held p → q.seat.block ≡ p.seat.block
+      → Makes values (taking_awaiter w) w p.seat.me q.seat.me → c ≡ not (w.notifying || w.registering) → b ≡ c → BeginsNotify p q b
   begun way held p q w true c s cell made e f = taken way held p q w s cell made (is_not (w.notifying || w.registering) (sym e ∙ sym f))
     where
       is_not : (b : Bool) → not b ≡ true → b ≡ false
@@ -55,15 +56,15 @@ module _ {F T A : Type 0} where
       is_so : (b : Bool) → not b ≡ false → b ≡ true
       is_so b e = grind arith
 
-  released : (hand : Option ℕ) (way : NotifyingCall) (y : Option A) (held : List (ℕ × TaskPlace F T A)) (p q : Party F T A) (w : State) → StandsWith (Releaser hand way) (awaiter_first y held) p → q.seat.block ≡ p.seat.block
-      → Makes (releasing_awaiter w) w p.seat.me q.seat.me → DidWith (row EndNotify w ∷ []) (after_taking hand way) held p q
+  released : {values : Values F T} (hand : Option ℕ) (way : NotifyingCall) (y : Option A) (held : List (ℕ × TaskPlace F T A)) (p q : Party F T A) (w : State) → StandsWith (Releaser hand way) (awaiter_first y held) p → q.seat.block ≡ p.seat.block
+      → Makes values (releasing_awaiter w) w p.seat.me q.seat.me → DidWith (row EndNotify w ∷ []) (after_taking hand way) held p q
   released hand way y held p q w s cell made =
       let m = moved.moved (EndNotify ∷ []) w (Releaser hand way) (awaiter_first y held) p q s made in
       moved.did p q (row EndNotify w ∷ []) (after_taking hand way) held cell m.viewed (gave_awaiter (Releaser hand way) (after_taking hand way) (awaiter_first y held) q.seat.me.1 (on_work hand way ∙ sym (same_way hand way)) refl (on_free hand way) m.carried)
 
   -- what lay there was taken out, and the place given back
-  pub ended : (hand : Option ℕ) (way : NotifyingCall) (y x : Option A) (held' : List (ℕ × TaskPlace F T A)) (p q r : Party F T A) (v : State) (found : Option (Held A)) → Waits hand y
-      → (y ≡ x) × DidWith [] (Releaser hand way) (awaiter_first None held') p q → r.seat.block ≡ q.seat.block → Makes (releasing_awaiter v) v q.seat.me r.seat.me → held found ≡ x → EndsNotify hand way held' p r found
+  pub ended : {values : Values F T} (hand : Option ℕ) (way : NotifyingCall) (y x : Option A) (held' : List (ℕ × TaskPlace F T A)) (p q r : Party F T A) (v : State) (found : Option (Held A)) → Waits hand y
+      → (y ≡ x) × DidWith [] (Releaser hand way) (awaiter_first None held') p q → r.seat.block ≡ q.seat.block → Makes values (releasing_awaiter v) v q.seat.me r.seat.me → held found ≡ x → EndsNotify hand way held' p r found
   ended hand way y x held' p q r v found waits g cell made is = record {
     word = v;
     is_there = there hand y found waits (is ∙ sym g.0);

@@ -1,4 +1,5 @@
 -- The paths of a whole poll, put together from those of its looks, its registering and its end.
+use Rattle.task_steps.specs.Values.{Values}
 use Rattle.task_cell.proofs.Vocabulary.{◌≡◌, ℕ, Bool, true, false, Option, Some, None, List, [], ◌∷◌, ◌++◌, sym, ap, ◌∙◌, subst, inl, inr, ◌⊎◌, ⊎_elim, if◌then◌else◌, Result, Ok, Err, State, TaskPoll}
 use Rattle.task_cell.proofs.Vocabulary.{OfPoll, Notifier, Looking, Registrar, Look, ClaimOutput, HandOutOutput, RefuseClone, EndCall, first_look, Deed, Party, position, Did, row, act, as_task}
 use Rattle.task_cell.proofs.Vocabulary.{poll_number, has_output, has_ended, has_to_wait, TakePath, TakePathIf, RegisterPath, AnswerPath, PollPath, ClaimsOutput, Looks, claims_output, sees_none}
@@ -10,10 +11,10 @@ use Rattle.task_cell.proofs.PollWays.{ends, then_goes, claimed_out}
 module _ {F T A : Type 0} where
   -- a look, by its answer
   abbrev pub Seen : Party F T A → Party F T A → Result State State → Type 0
-  Seen p q (Ok w) = ClaimsOutput w (row ClaimOutput w ∷ []) p q
+  Seen p q (Ok w) = ClaimsOutput values w (row ClaimOutput w ∷ []) p q
   Seen p q (Err w) = (has_output w ≡ false) × Did (row Look w ∷ []) (first_look w (poll_number (position p))) p q
 
-  pub seen : (p q : Party F T A) (x : Result State State) → Looks p q x → Seen p q x
+  pub seen : {values : Values F T} (p q : Party F T A) (x : Result State State) → Looks values p q x → Seen p q x
   seen p q (Ok w) (claims_output _ c) = c
   seen p q (Err w) (sees_none _ e g) = (e, g)
 
@@ -23,10 +24,10 @@ module _ {F T A : Type 0} where
 
   -- the look of a poll that has registered
   abbrev pub SeenAgain : Party F T A → Party F T A → Result State State → Type 0
-  SeenAgain p q (Ok w) = ClaimsOutput w (row Look w ∷ row ClaimOutput w ∷ []) p q
+  SeenAgain p q (Ok w) = ClaimsOutput values w (row Look w ∷ row ClaimOutput w ∷ []) p q
   SeenAgain p q (Err w) = ((has_to_wait w ≡ true) × Did (row Look w ∷ act EndCall ∷ []) (ends (position p)) p q) ⊎ ((has_to_wait w ≡ false) × (has_ended w ≡ true) × Did (row Look w ∷ []) (Notifier (OfPoll (poll_number (position p)))) p q)
 
-  pub seen_again : (p q : Party F T A) (x : Result State State) → LooksAgain p q x → SeenAgain p q x
+  pub seen_again : {values : Values F T} (p q : Party F T A) (x : Result State State) → LooksAgain values p q x → SeenAgain p q x
   seen_again p q (Ok w) (claims_output_now _ c) = c
   seen_again p q (Err w) (has_to_wait_on _ e g) = inl (e, g)
   seen_again p q (Err w) (sees_end _ e f g) = inr (e, f, g)
@@ -45,7 +46,7 @@ module _ {F T A : Type 0} where
         → Answers n (Ready None) p r
     answers_ended w n taken p q r e t g h = (row Look w ∷ taken ++ (act EndCall ∷ []), paths.has_ended_since w taken e t, then_goes p q r (row Look w ∷ []) (taken ++ (act EndCall ∷ [])) (Notifier (OfPoll n)) [] [] ends g h)
 
-    pub answers_output : (w : State) (x : T) (taken : List Deed) (p q r : Party F T A) → ClaimsOutput w (row Look w ∷ row ClaimOutput w ∷ []) p q → TakePathIf woken compared awaiter w.awaiter taken
+    pub answers_output : {values : Values F T} (w : State) (x : T) (taken : List Deed) (p q r : Party F T A) → ClaimsOutput values w (row Look w ∷ row ClaimOutput w ∷ []) p q → TakePathIf woken compared awaiter w.awaiter taken
         → Did (taken ++ (act HandOutOutput ∷ act EndCall ∷ [])) (ends (position q)) q r → Answers (poll_number (position p)) (Ready (Some x)) p r
     answers_output w x taken p q r c t o = let rest : List Deed = taken ++ (act HandOutOutput ∷ act EndCall ∷ []) in
         (row Look w ∷ row ClaimOutput w ∷ rest, paths.has_output_since w (row ClaimOutput w ∷ rest) x (paths.claims taken c.there t), claimed_out w (row Look w ∷ row ClaimOutput w ∷ []) rest p q r c o)
@@ -53,7 +54,7 @@ module _ {F T A : Type 0} where
     abbrev pub Polled : ℕ → TaskPoll (Option T) → Party F T A → Party F T A → Type 0
     Polled n answer p r = (path : List Deed) × PollPath cloned woken woken_by_ref compared awaiter path answer × Did path (as_task n) p r
 
-    pub polled_output : (w : State) (x : T) (taken : List Deed) (p q r : Party F T A) → ClaimsOutput w (row ClaimOutput w ∷ []) p q → TakePathIf woken compared awaiter w.awaiter taken
+    pub polled_output : {values : Values F T} (w : State) (x : T) (taken : List Deed) (p q r : Party F T A) → ClaimsOutput values w (row ClaimOutput w ∷ []) p q → TakePathIf woken compared awaiter w.awaiter taken
         → Did (taken ++ (act HandOutOutput ∷ act EndCall ∷ [])) (ends (position q)) q r → Polled (poll_number (position p)) (Ready (Some x)) p r
     polled_output w x taken p q r c t o = let rest : List Deed = taken ++ (act HandOutOutput ∷ act EndCall ∷ []) in
         (row ClaimOutput w ∷ rest, paths.finds_output w (row ClaimOutput w ∷ rest) x (paths.claims taken c.there t), claimed_out w (row ClaimOutput w ∷ []) rest p q r c o)

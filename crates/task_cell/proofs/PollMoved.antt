@@ -1,4 +1,5 @@
 -- What the looks of a poll and the steps of a registering come to for the party that made them.
+use Rattle.task_steps.specs.Values.{Values}
 use Rattle.std.proofs.Common.{inl}
 use Rattle.task_cell.proofs.Vocabulary.{◌≡◌, ℕ, ◌+◌, Bool, true, false, not, ◌&&◌, ◌||◌, Option, Some, None, List, [], ◌∷◌, refl, sym, ap, ◌∙◌, subst, map, if◌then◌else◌, Result, Ok, Err}
 use Rattle.task_cell.proofs.Vocabulary.{IfOk, IfErr, Me, State, Position, TaskPollBegins, IsPending, OfPoll, OfClaim, Looking, SawOutput, Answering, Notifier, Registrar}
@@ -26,11 +27,11 @@ finds_end i false busy false e f = absurd (cc)
 
 module _ {F T A : Type 0} where
   -- the seat after acts that lead to this position, and add no party
-  went : (acts : List Act) (w : State) (at at' : Position) (held : List (ℕ × TaskPlace F T A)) (path : List Deed) (p q : Party F T A) → StandsWith at held p → q.seat.block ≡ p.seat.block → (m : Makes acts w p.seat.me q.seat.me)
+  went : {values : Values F T} (acts : List Act) (w : State) (at at' : Position) (held : List (ℕ × TaskPlace F T A)) (path : List Deed) (p q : Party F T A) → StandsWith at held p → q.seat.block ≡ p.seat.block → (m : Makes values acts w p.seat.me q.seat.me)
       → next_of (leaves_by (limit_of p) w m.slots acts at) ≡ at' → born_of (leaves_by (limit_of p) w m.slots acts at) ≡ [] → noted w acts (deeds p) ≡ after path (deeds p)
-      → Carried at at' held q.seat.me.1 × DidWith path at' q.seat.me.1 p q
-  went acts w at at' held path p q s cell m to none is = let viewed = m.viewed ∙ ap (λ x. acted w m.slots acts x.0) s in (
-    subst (λ (z : Position × Position × List (ℕ × TaskPlace F T A)). Carried z.0 z.1 z.2 q.seat.me.1)
+      → Carried values at at' held q.seat.me.1 × DidWith path at' q.seat.me.1 p q
+  went {values = values} acts w at at' held path p q s cell m to none is = let viewed = m.viewed ∙ ap (λ x. acted w m.slots acts x.0) s in (
+    subst (λ (z : Position × Position × List (ℕ × TaskPlace F T A)). Carried values z.0 z.1 z.2 q.seat.me.1)
         (λ i. (ap (λ (x : Me (TaskPlace F T A) View). (head_of x.0.members).at) s i, (ap (λ (v : View). (head_of v.members).at) viewed ∙ to) i, ap (λ (x : Me (TaskPlace F T A) View). x.1) s i)) m.carried,
     record {
       cell = cell;
@@ -38,18 +39,18 @@ module _ {F T A : Type 0} where
     },
   )
 
-  pub found_one : (limit i : ℕ) (w : State) (p q : Party F T A) → Stands (Registrar i) p → q.seat.block ≡ p.seat.block → HasEnded limit to_begin_register w p.seat.me q.seat.me → BeginsRegister p q false
+  pub found_one : {values : Values F T} (limit i : ℕ) (w : State) (p q : Party F T A) → Stands (Registrar i) p → q.seat.block ≡ p.seat.block → HasEnded values limit to_begin_register w p.seat.me q.seat.me → BeginsRegister p q false
   found_one limit i w p q s cell e =
       let path : List Deed = act CloneAwaiter ∷ row FindNotify w ∷ [] in
       let g = went (CloneAwaiter ∷ FindNotify ∷ []) w (Registrar i) (UnusedClone i) [] path p q s cell e.made refl refl refl in
       finds_one w e.at_end (subst (λ at. Did path (UnusedClone (poll_number at)) p q) (sym (position_is p (Registrar i) [] s)) (subst (λ l. DidWith path (UnusedClone i) l p q) g.0 g.1))
 
   -- the slot that is taken, by what stood in it
-  carried_slot : (i : ℕ) (hand : Option ℕ) (l' : List (ℕ × TaskPlace F T A)) → Carried (Registrar i) (after_storing i hand) [] l' → (y : Option A) × Waits hand y × (l' ≡ awaiter_first y [])
+  carried_slot : {values : Values F T} (i : ℕ) (hand : Option ℕ) (l' : List (ℕ × TaskPlace F T A)) → Carried values (Registrar i) (after_storing i hand) [] l' → (y : Option A) × Waits hand y × (l' ≡ awaiter_first y [])
   carried_slot i None l' c = c
   carried_slot i (Some old) l' c = c
 
-  pub begun : (limit i : ℕ) (r : Unit {0}) (p q : Party F T A) → Stands (Registrar i) p → q.seat.block ≡ p.seat.block → HasChanged limit to_begin_register r p.seat.me q.seat.me → BeginsRegister p q true
+  pub begun : {values : Values F T} (limit i : ℕ) (r : Unit {0}) (p q : Party F T A) → Stands (Registrar i) p → q.seat.block ≡ p.seat.block → HasChanged values limit to_begin_register r p.seat.me q.seat.me → BeginsRegister p q true
   begun limit i r p q s cell c = let m = c.made in let w = c.word in
       let path : List Deed = act CloneAwaiter ∷ row BeginRegister w ∷ act StoreAwaiter ∷ [] in let hand : Option ℕ = m.slots.awaiter in
       let g = went (CloneAwaiter ∷ BeginRegister ∷ StoreAwaiter ∷ []) w (Registrar i) (after_storing i hand) [] path p q s cell m refl refl refl in
@@ -57,14 +58,14 @@ module _ {F T A : Type 0} where
       begins w hand y.0 (not_true w.notifying c.applied) y.1 (subst (λ at. DidWith path (after_storing (poll_number at) hand) (awaiter_first y.0 []) p q) (sym (position_is p (Registrar i) [] s)) (subst (λ l. DidWith path (after_storing i hand) l p q) y.2 g.1))
 
   -- the slot is given back
-  pub ended : (limit i : ℕ) (r : Unit {0}) (y : Option A) (p q : Party F T A) → StandsWith (Registered i) (awaiter_first y []) p → q.seat.block ≡ p.seat.block → HasChanged limit to_end_register r p.seat.me q.seat.me → EndsRegister p q true
+  pub ended : {values : Values F T} (limit i : ℕ) (r : Unit {0}) (y : Option A) (p q : Party F T A) → StandsWith (Registered i) (awaiter_first y []) p → q.seat.block ≡ p.seat.block → HasChanged values limit to_end_register r p.seat.me q.seat.me → EndsRegister p q true
   ended limit i r y p q s cell c = let m = c.made in let w = c.word in
       let path : List Deed = row EndRegister w ∷ [] in
       let g = went (EndRegister ∷ []) w (Registered i) (Looking i) (awaiter_first y []) path p q s cell m refl refl refl in
       ends w (not_true w.notifying c.applied) (subst (λ at. Did path (Looking (poll_number at)) p q) (sym (position_is p (Registered i) (awaiter_first y []) s)) (subst (λ l. DidWith path (Looking i) l p q) g.0 g.1))
 
   -- the slot is given back without the clone, which was taken out of it
-  pub given_back : (i : ℕ) (w : State) (y : Option A) (p q r : Party F T A) → StandsWith (TookBack i) (awaiter_first y []) p → DidWith [] (TookBack i) (awaiter_first None []) p q → r.seat.block ≡ q.seat.block → Makes (EndRegisterNotified ∷ []) w q.seat.me r.seat.me
+  pub given_back : {values : Values F T} (i : ℕ) (w : State) (y : Option A) (p q r : Party F T A) → StandsWith (TookBack i) (awaiter_first y []) p → DidWith [] (TookBack i) (awaiter_first None []) p q → r.seat.block ≡ q.seat.block → Makes values (EndRegisterNotified ∷ []) w q.seat.me r.seat.me
       → (v : State) × (v.notifying ≡ true) × Did (row EndRegisterNotified v ∷ []) (CloneInHand (poll_number (position p))) p r
   given_back i w y p q r s took cell m = let path : List Deed = row EndRegisterNotified w ∷ [] in let held : List (ℕ × TaskPlace F T A) = awaiter_first None [] in
       let g = went (EndRegisterNotified ∷ []) w (TookBack i) (CloneInHand i) held path q r (stands p q [] (TookBack i) held took) cell m refl refl refl in (
@@ -74,7 +75,7 @@ module _ {F T A : Type 0} where
       )
 
   -- a notifier came meanwhile, and the clone is taken back
-  pub notified : (limit i : ℕ) (w : State) (y : Option A) (p q : Party F T A) → StandsWith (Registered i) (awaiter_first y []) p → q.seat.block ≡ p.seat.block → HasEnded limit to_end_register w p.seat.me q.seat.me → EndsRegister p q false
+  pub notified : {values : Values F T} (limit i : ℕ) (w : State) (y : Option A) (p q : Party F T A) → StandsWith (Registered i) (awaiter_first y []) p → q.seat.block ≡ p.seat.block → HasEnded values limit to_end_register w p.seat.me q.seat.me → EndsRegister p q false
   notified limit i w y p q s cell e = let m = e.made in let path : List Deed = act TakeAwaiter ∷ [] in let held : List (ℕ × TaskPlace F T A) = awaiter_first y [] in
       let to : (f : Option Outcome → Position) → f (leaves_by (limit_of p) w m.slots (TakeAwaiter ∷ []) (Registered i)) ≡ f (Some (changes_slots (spot (limit_of p) (held_word (Registered i) w) m.slots) w (record (m.slots) { awaiter = None }) (TookBack i) [])) = λ f.
       ap (λ (b : Bool). f (and_then (when b (changes_slots (spot (limit_of p) (held_word (Registered i) w) m.slots) w (record (m.slots) { awaiter = None }) (TookBack i) [])) (λ o. leaves_by (limit_of p) o.word o.slots [] o.next))) e.at_end in
@@ -83,13 +84,13 @@ module _ {F T A : Type 0} where
       finds_notified (subst (λ (z : Position × List (ℕ × TaskPlace F T A)). DidWith path (TookBack (poll_number z.0)) z.1 p q) (λ j. (sym (position_is p (Registered i) held s) j, sym (held_is p (Registered i) held s) j)) (subst (λ l. DidWith path (TookBack i) l p q) g.0 g.1))
 
   -- the places of the output, once it was claimed
-  carried_output : (b : Bool) (i : ℕ) (l : List (ℕ × TaskPlace F T A)) → Carries false (has_work (notifies b (OfClaim i))) false (owns_awaiter (notifies b (OfClaim i))) (notifies b (OfClaim i)) [] l → TakesOutput [] l
+  carried_output : {values : Values F T} (b : Bool) (i : ℕ) (l : List (ℕ × TaskPlace F T A)) → Carries false (has_work (notifies b (OfClaim i))) false (owns_awaiter (notifies b (OfClaim i))) (notifies b (OfClaim i)) [] l → TakesOutput values [] l
   carried_output true i l c = c
   carried_output false i l c = c
 
-  claimed : (w : State) (at : Position) (acts : List Act) (path : List Deed) (p q : Party F T A) → Stands at p → q.seat.block ≡ p.seat.block → (m : Makes acts w p.seat.me q.seat.me) → has_output w ≡ true
+  claimed : {values : Values F T} (w : State) (at : Position) (acts : List Act) (path : List Deed) (p q : Party F T A) → Stands at p → q.seat.block ≡ p.seat.block → (m : Makes values acts w p.seat.me q.seat.me) → has_output w ≡ true
       → next_of (leaves_by (limit_of p) w m.slots acts at) ≡ notifies w.awaiter (OfClaim (poll_number at)) → born_of (leaves_by (limit_of p) w m.slots acts at) ≡ [] → noted w acts (deeds p) ≡ after path (deeds p)
-      → (Carried at (notifies w.awaiter (OfClaim (poll_number at))) [] q.seat.me.1 → TakesOutput [] q.seat.me.1) → ClaimsOutput w path p q
+      → (Carried values at (notifies w.awaiter (OfClaim (poll_number at))) [] q.seat.me.1 → TakesOutput values [] q.seat.me.1) → ClaimsOutput values w path p q
   claimed w at acts path p q s cell m there to none is takes = let g = went acts w at (notifies w.awaiter (OfClaim (poll_number at))) [] path p q s cell m to none is in let c = takes g.0 in record {
     there = there;
     output = c.0;
@@ -97,13 +98,13 @@ module _ {F T A : Type 0} where
     did = subst (λ at. DidWith path (notifies w.awaiter (OfClaim (poll_number at))) (work_first c.0 []) p q) (sym (position_is p at [] s)) (subst (λ l. DidWith path (notifies w.awaiter (OfClaim (poll_number at))) l p q) c.2 g.1);
   }
 
-  first_holds : (w : State) (n : ℕ) (l : List (ℕ × TaskPlace F T A)) → Carried (as_task n) (first_look w (n + 1)) [] l → l ≡ []
+  first_holds : {values : Values F T} (w : State) (n : ℕ) (l : List (ℕ × TaskPlace F T A)) → Carried values (as_task n) (first_look w (n + 1)) [] l → l ≡ []
   first_holds w n l c = let f = first_free w (n + 1) in subst (λ (z : Bool × Bool). Carries false z.0 false z.1 (first_look w (n + 1)) [] l) (λ j. (f.0 j, f.1 j)) c
 
   -- the first look of a poll
-  pub looks_so : (limit n : ℕ) (x : Result State State) (p q : Party F T A) → Stands (as_task n) p → q.seat.block ≡ p.seat.block → IfOk x (λ w. HasChanged limit to_look w p.seat.me q.seat.me)
-      → IfErr x (λ w. HasEnded limit to_look w p.seat.me q.seat.me) → Looks p q x
-  looks_so limit n (Ok r) p q s cell c e = let w = c.word in subst (λ (v : State). Looks p q (Ok v)) (sym c.is)
+  pub looks_so : {values : Values F T} (limit n : ℕ) (x : Result State State) (p q : Party F T A) → Stands (as_task n) p → q.seat.block ≡ p.seat.block → IfOk x (λ w. HasChanged values limit to_look w p.seat.me q.seat.me)
+      → IfErr x (λ w. HasEnded values limit to_look w p.seat.me q.seat.me) → Looks values p q x
+  looks_so {values = values} limit n (Ok r) p q s cell c e = let w = c.word in subst (λ (v : State). Looks values p q (Ok v)) (sym c.is)
       (claims_output w (claimed w (as_task n) (ClaimOutput ∷ []) (row ClaimOutput w ∷ []) p q s cell c.made c.applied refl refl refl (carried_output w.awaiter (n + 1) q.seat.me.1)))
   looks_so limit n (Err w) p q s cell c e = let m = e.made in let l : ℕ = limit_of p in let path : List Deed = row Look w ∷ [] in
       let left : Bool → Option Outcome = (λ b. and_then (when b (leaves_slots (spot l (held_word (as_task n) w) m.slots) w (first_look (held_word (as_task n) w) (n + 1)) [] (TaskPollBegins (n + 1) ∷ []))) (λ o. leaves_by l o.word o.slots [] o.next)) in
@@ -111,14 +112,14 @@ module _ {F T A : Type 0} where
       sees_none w (not_true (has_output w) e.at_end) (subst (λ at. Did path (first_look w (poll_number at)) p q) (sym (position_is p (as_task n) [] s)) (subst (λ l. DidWith path (first_look w (n + 1)) l p q) (first_holds w n q.seat.me.1 g.0) g.1))
 
   -- .. which finds the task ended where one before it did
-  pub finds_it_ended : (limit : ℕ) (x : Result State State) (p q : Party F T A) → IfOk x (λ w. HasChanged limit to_look w p.seat.me q.seat.me) → IfErr x (λ w. HasEnded limit to_look w p.seat.me q.seat.me)
+  pub finds_it_ended : {values : Values F T} (limit : ℕ) (x : Result State State) (p q : Party F T A) → IfOk x (λ w. HasChanged values limit to_look w p.seat.me q.seat.me) → IfErr x (λ w. HasEnded values limit to_look w p.seat.me q.seat.me)
       → saw_ended (deeds p) ≡ true → (w : State) × (x ≡ Err w) × (has_ended w ≡ true)
   finds_it_ended limit (Ok r) p q c e saw = not_both c.word (c.knows.ended saw) c.applied
   finds_it_ended limit (Err w) p q c e saw = (w, refl, e.knows.ended saw)
 
   -- .. and the look of one that has registered
-  looked_again_in_vain : (limit i : ℕ) (w : State) (p q : Party F T A) → Stands (Looking i) p → q.seat.block ≡ p.seat.block → HasEnded limit to_look_again w p.seat.me q.seat.me → LooksAgain p q (Err w)
-  looked_again_in_vain limit i w p q s cell e = by (has_to_wait w) refl
+  looked_again_in_vain : {values : Values F T} (limit i : ℕ) (w : State) (p q : Party F T A) → Stands (Looking i) p → q.seat.block ≡ p.seat.block → HasEnded values limit to_look_again w p.seat.me q.seat.me → LooksAgain values p q (Err w)
+  looked_again_in_vain {values = values} limit i w p q s cell e = by (has_to_wait w) refl
     where
       l : ℕ
       l = limit_of p
@@ -126,31 +127,31 @@ module _ {F T A : Type 0} where
       left : Slots → List Act → Position → Option Outcome
       left slots acts at = and_then (Some (leaves_slots (spot l (held_word (Looking i) w) slots) w at [] [])) (λ o. leaves_by l o.word o.slots acts o.next)
 
-      by : (b : Bool) → has_to_wait w ≡ b → LooksAgain p q (Err w)
-      by true f = let m = subst (λ b. Makes (if b then Look ∷ EndCall ∷ [] else Look ∷ []) w p.seat.me q.seat.me) f e.made in let path : List Deed = row Look w ∷ act EndCall ∷ [] in
+      by : (b : Bool) → has_to_wait w ≡ b → LooksAgain values p q (Err w)
+      by true f = let m = subst (λ b. Makes values (if b then Look ∷ EndCall ∷ [] else Look ∷ []) w p.seat.me q.seat.me) f e.made in let path : List Deed = row Look w ∷ act EndCall ∷ [] in
           let is = has_waited w i f in let g = went (Look ∷ EndCall ∷ []) w (Looking i) (as_task i) [] path p q s cell m (ap (λ at. next_of (left m.slots (EndCall ∷ []) at)) is) (ap (λ at. born_of (left m.slots (EndCall ∷ []) at)) is) refl in
           has_to_wait_on w f (subst (λ at. Did path (as_task (poll_number at)) p q) (sym (position_is p (Looking i) [] s)) (subst (λ l. DidWith path (as_task i) l p q) g.0 g.1))
-      by false f = let m = subst (λ b. Makes (if b then Look ∷ EndCall ∷ [] else Look ∷ []) w p.seat.me q.seat.me) f e.made in let path : List Deed = row Look w ∷ [] in
+      by false f = let m = subst (λ b. Makes values (if b then Look ∷ EndCall ∷ [] else Look ∷ []) w p.seat.me q.seat.me) f e.made in let path : List Deed = row Look w ∷ [] in
           let is = finds_end i w.closed (w.scheduled || w.running) w.completed f (not_true (has_output w) e.at_end) in let g = went (Look ∷ []) w (Looking i) (Notifier (OfPoll i)) [] path p q s cell m (ap (λ at. next_of (left m.slots [] at)) is.0) (ap (λ at. born_of (left m.slots [] at)) is.0) refl in
           sees_end w f is.1 (subst (λ at. Did path (Notifier (OfPoll (poll_number at))) p q) (sym (position_is p (Looking i) [] s)) (subst (λ l. DidWith path (Notifier (OfPoll i)) l p q) g.0 g.1))
 
-  pub looks_again_so : (limit i : ℕ) (x : Result State State) (p q : Party F T A) → Stands (Looking i) p → q.seat.block ≡ p.seat.block → IfOk x (λ w. HasChanged limit to_look_again w p.seat.me q.seat.me)
-      → IfErr x (λ w. HasEnded limit to_look_again w p.seat.me q.seat.me) → LooksAgain p q x
-  looks_again_so limit i (Ok r) p q s cell c e = let w = c.word in let m = c.made in let l : ℕ = limit_of p in let there = c.applied in
+  pub looks_again_so : {values : Values F T} (limit i : ℕ) (x : Result State State) (p q : Party F T A) → Stands (Looking i) p → q.seat.block ≡ p.seat.block → IfOk x (λ w. HasChanged values limit to_look_again w p.seat.me q.seat.me)
+      → IfErr x (λ w. HasEnded values limit to_look_again w p.seat.me q.seat.me) → LooksAgain values p q x
+  looks_again_so {values = values} limit i (Ok r) p q s cell c e = let w = c.word in let m = c.made in let l : ℕ = limit_of p in let there = c.applied in
       let left : Position → Option Outcome = (λ at. and_then (Some (leaves_slots (spot l (held_word (Looking i) w) m.slots) w at [] [])) (λ o. leaves_by l o.word o.slots (ClaimOutput ∷ []) o.next)) in
-      subst (λ (v : State). LooksAgain p q (Ok v)) (sym c.is) (claims_output_now w (claimed w (Looking i) (Look ∷ ClaimOutput ∷ []) (row Look w ∷ row ClaimOutput w ∷ []) p q s cell m there (ap (λ at. next_of (left at)) (sees_output w i there)) (ap (λ at. born_of (left at)) (sees_output w i there)) refl (carried_output w.awaiter i q.seat.me.1)))
+      subst (λ (v : State). LooksAgain values p q (Ok v)) (sym c.is) (claims_output_now w (claimed w (Looking i) (Look ∷ ClaimOutput ∷ []) (row Look w ∷ row ClaimOutput w ∷ []) p q s cell m there (ap (λ at. next_of (left at)) (sees_output w i there)) (ap (λ at. born_of (left at)) (sees_output w i there)) refl (carried_output w.awaiter i q.seat.me.1)))
   looks_again_so limit i (Err w) p q s cell c e = looked_again_in_vain limit i w p q s cell e
 
-module _ (F T A : Type 0) (limit : ℕ) where
+module _ (F T A : Type 0) (values : Values F T) (limit : ℕ) where
   -- the rule allows a poll to look, to take the awaiter slot, and to give it back
-  pub may_register : (p : Party F T A) (i : ℕ) → Stands (Registrar i) p → MayTry limit 2 p.seat.id p.seat.me to_begin_register × MayBring limit p.seat.id p.seat.me to_begin_register
-  may_register p i s = may_bring_at limit p (Registrar i) [] s to_begin_register (λ w. refl) (begins_register F T A limit i (deeds p) [] []) (λ m f fits. inl (refl, refl)) (finds_notifier F T A limit i (deeds p) [] [])
+  pub may_register : (p : Party F T A) (i : ℕ) → Stands (Registrar i) p → MayTry values limit 2 p.seat.id p.seat.me to_begin_register × MayBring values limit p.seat.id p.seat.me to_begin_register
+  may_register p i s = may_bring_at limit p (Registrar i) [] s to_begin_register (λ w. refl) (begins_register F T A values limit i (deeds p) [] []) (λ m f fits. inl (refl, refl)) (finds_notifier F T A values limit i (deeds p) [] [])
 
-  pub may_give_back : (p : Party F T A) (i : ℕ) (a : A) → StandsWith (Registered i) (awaiter_first (Some a) []) p → MayTry limit 2 p.seat.id p.seat.me to_end_register × MayBring limit p.seat.id p.seat.me to_end_register
-  may_give_back p i a s = let held : List (ℕ × TaskPlace F T A) = awaiter_first (Some a) [] in may_bring_at limit p (Registered i) held s to_end_register (λ w. refl) (ends_register F T A limit i (deeds p) [] a held refl) (λ m f fits. inl (refl, refl)) (takes_back F T A limit i (deeds p) [] held)
+  pub may_give_back : (p : Party F T A) (i : ℕ) (a : A) → StandsWith (Registered i) (awaiter_first (Some a) []) p → MayTry values limit 2 p.seat.id p.seat.me to_end_register × MayBring values limit p.seat.id p.seat.me to_end_register
+  may_give_back p i a s = let held : List (ℕ × TaskPlace F T A) = awaiter_first (Some a) [] in may_bring_at limit p (Registered i) held s to_end_register (λ w. refl) (ends_register F T A values limit i (deeds p) [] a held refl) (λ m f fits. inl (refl, refl)) (takes_back F T A values limit i (deeds p) [] held)
 
-  pub may_look : (p : Party F T A) (n : ℕ) → Stands (as_task n) p → MayTry limit 2 p.seat.id p.seat.me to_look × MayBring limit p.seat.id p.seat.me to_look
-  may_look p n s = may_bring_at limit p (as_task n) [] s to_look (λ w. refl) (claims F T A limit n (deeds p) [] []) (λ m f fits. inl (refl, refl)) (looks F T A limit n (deeds p) [] [])
+  pub may_look : (p : Party F T A) (n : ℕ) → Stands (as_task n) p → MayTry values limit 2 p.seat.id p.seat.me to_look × MayBring values limit p.seat.id p.seat.me to_look
+  may_look p n s = may_bring_at limit p (as_task n) [] s to_look (λ w. refl) (claims F T A values limit n (deeds p) [] []) (λ m f fits. inl (refl, refl)) (looks F T A values limit n (deeds p) [] [])
 
-  pub may_look_again : (p : Party F T A) (i : ℕ) → Stands (Looking i) p → MayTry limit 2 p.seat.id p.seat.me to_look_again × MayBring limit p.seat.id p.seat.me to_look_again
-  may_look_again p i s = may_bring_at limit p (Looking i) [] s to_look_again (λ w. refl) (claims_again F T A limit i (deeds p) [] []) (λ m f fits. inl (refl, refl)) (looks_again F T A limit i (deeds p) [] [])
+  pub may_look_again : (p : Party F T A) (i : ℕ) → Stands (Looking i) p → MayTry values limit 2 p.seat.id p.seat.me to_look_again × MayBring values limit p.seat.id p.seat.me to_look_again
+  may_look_again p i s = may_bring_at limit p (Looking i) [] s to_look_again (λ w. refl) (claims_again F T A values limit i (deeds p) [] []) (λ m f fits. inl (refl, refl)) (looks_again F T A values limit i (deeds p) [] [])

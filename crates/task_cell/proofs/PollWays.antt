@@ -1,4 +1,5 @@
 -- The paths of a poll, put together from those of its parts.
+use Rattle.task_steps.specs.Values.{Values}
 use Rattle.task_cell.proofs.Vocabulary.{◌≡◌, ℕ, Bool, true, false, Option, Some, None, List, [], ◌∷◌, ◌++◌, refl, sym, ap, ◌∙◌, subst, State, Position, NotifyingCall, OfPoll, OfClaim, Notifier}
 use Rattle.task_cell.proofs.Vocabulary.{AwaiterInHand, TookOutput, Answering, HandOutOutput, TakeAwaiter, DropAwaiter, WakeAwaiter, EndCall, BeginNotify, MissNotify, EndNotify, IsClosed, after_waking}
 use Rattle.task_cell.proofs.Vocabulary.{may_drop, notifies, Slot, Deed, Party, Fits, position, places_of, StandsWith, Stands, DidWith, Did, Notifies, misses, finds_none, takes_awaiter, row, act}
@@ -139,10 +140,10 @@ module _ {F T A : Type 0} where
   handed_out taken p q r g o = then_goes p q r taken (act HandOutOutput ∷ act EndCall ∷ []) (TookOutput (poll_number (position p))) (places_of p) [] ends g o
 
   -- a look that has claimed the output stands to take the awaiter
-  pub has_claimed : (w : State) (path : List Deed) (p q : Party F T A) → ClaimsOutput w path p q → (i : ℕ) × (z : Slot F T) × StandsWith (notifies w.awaiter (OfClaim i)) (work_first z []) q × IsOutput z
+  pub has_claimed : {values : Values F T} (w : State) (path : List Deed) (p q : Party F T A) → ClaimsOutput values w path p q → (i : ℕ) × (z : Slot F T) × StandsWith (notifies w.awaiter (OfClaim i)) (work_first z []) q × IsOutput values z
   has_claimed w path p q c = let n : ℕ = poll_number (position p) in (n, c.output, stands p q path (notifies w.awaiter (OfClaim n)) (work_first c.output []) c.did, c.is_output)
 
   -- .. and goes on to the end of its poll
-  pub claimed_out : (w : State) (path rest : List Deed) (p q r : Party F T A) → ClaimsOutput w path p q → Did rest (ends (position q)) q r → Did (path ++ rest) (ends (position p)) p r
+  pub claimed_out : {values : Values F T} (w : State) (path rest : List Deed) (p q r : Party F T A) → ClaimsOutput values w path p q → Did rest (ends (position q)) q r → Did (path ++ rest) (ends (position p)) p r
   claimed_out w path rest p q r c o = let n : ℕ = poll_number (position p) in
       subst (λ k. Did (path ++ rest) (as_task k) p r) (claimed_number w.awaiter n) (then_goes p q r path rest (notifies w.awaiter (OfClaim n)) (work_first c.output []) [] ends c.did o)

@@ -1,4 +1,5 @@
 -- What the steps of a run and of a Runnable's drop come to.
+use Rattle.task_steps.specs.Values.{Values}
 use Rattle.std.proofs.Common.{inl}
 use Rattle.task_cell.proofs.Vocabulary.{◌≡◌, ℕ, Bool, true, false, not, ◌||◌, List, [], ◌∷◌, Option, Some, None, refl, sym, ap, ◌∙◌, subst, if◌then◌else◌, nat_lt, State, Answer}
 use Rattle.task_cell.proofs.Vocabulary.{Ran, Runnable, Ended, OfRun, ThenEnds, DroppedRunnable, Position, At, Deliverer, GivingUp, Emptier, FutureGone, Polling, Pending, ReadyFutureDropped, PendingFutureDropped}
@@ -37,22 +38,22 @@ alone_fits : (a : Act) (limit : ℕ) (w : State) → all_fit limit w (a ∷ []) 
 alone_fits a limit w e = left_true (found limit a w) true e
 
 module _ {F T A : Type 0} where
-  pub discarded : (p q : Party F T A) (w : State) → Stands (At Runnable) p → q.seat.block ≡ p.seat.block → Makes (discarding w) w p.seat.me q.seat.me
-      → (d : Deed) × (y : Slot F T) × DiscardStart d × DidWith (d ∷ act DropFuture ∷ []) (FutureGone DroppedRunnable) (work_first y []) p q × IsFuture y
-  discarded p q w s cell made = by w.closed refl made
+  pub discarded : {values : Values F T} (p q : Party F T A) (w : State) → Stands (At Runnable) p → q.seat.block ≡ p.seat.block → Makes values (discarding w) w p.seat.me q.seat.me
+      → (d : Deed) × (y : Slot F T) × DiscardStart d × DidWith (d ∷ act DropFuture ∷ []) (FutureGone DroppedRunnable) (work_first y []) p q × IsFuture values y
+  discarded {values = values} p q w s cell made = by w.closed refl made
     where
-      by : (b : Bool) → w.closed ≡ b → Makes (if b then DiscardClosed ∷ DropFuture ∷ [] else DiscardOpen ∷ DropFuture ∷ []) w p.seat.me q.seat.me
-          → (d : Deed) × (y : Slot F T) × DiscardStart d × DidWith (d ∷ act DropFuture ∷ []) (FutureGone DroppedRunnable) (work_first y []) p q × IsFuture y
+      by : (b : Bool) → w.closed ≡ b → Makes values (if b then DiscardClosed ∷ DropFuture ∷ [] else DiscardOpen ∷ DropFuture ∷ []) w p.seat.me q.seat.me
+          → (d : Deed) × (y : Slot F T) × DiscardStart d × DidWith (d ∷ act DropFuture ∷ []) (FutureGone DroppedRunnable) (work_first y []) p q × IsFuture values y
       by true h made = let m = moved.moved (DiscardClosed ∷ DropFuture ∷ []) w (At Runnable) [] p q s made in let y = took_work (At Runnable) (FutureGone DroppedRunnable) [] q.seat.me.1 refl refl m.carried in
           (row DiscardClosed w, y.0, found_closed w h, moved.did p q (row DiscardClosed w ∷ act DropFuture ∷ []) (FutureGone DroppedRunnable) (work_first y.0 []) cell m.viewed y.2, y.1)
       by false h made = let m = moved.moved (DiscardOpen ∷ DropFuture ∷ []) w (At Runnable) [] p q s made in let y = took_work (At Runnable) (FutureGone DroppedRunnable) [] q.seat.me.1 refl refl m.carried in
           (row DiscardOpen w, y.0, found_open w h, moved.did p q (row DiscardOpen w ∷ act DropFuture ∷ []) (FutureGone DroppedRunnable) (work_first y.0 []) cell m.viewed y.2, y.1)
 
-  pub gave_up : (hand : Option ℕ) (answer : Answer) (p q : Party F T A) (w : State) → Stands (GivingUp hand answer) p → q.seat.block ≡ p.seat.block → Makes (giving_up w) w p.seat.me q.seat.me
+  pub gave_up : {values : Values F T} (hand : Option ℕ) (answer : Answer) (p q : Party F T A) (w : State) → Stands (GivingUp hand answer) p → q.seat.block ≡ p.seat.block → Makes values (giving_up w) w p.seat.me q.seat.me
       → GivesUp hand answer p q (not (nat_lt 1 w.references || w.task))
-  gave_up hand answer p q w s cell made = by (nat_lt 1 w.references || w.task) refl made
+  gave_up {values = values} hand answer p q w s cell made = by (nat_lt 1 w.references || w.task) refl made
     where
-      by : (b : Bool) → (nat_lt 1 w.references || w.task) ≡ b → Makes (if b then GiveUpReference ∷ [] else GiveUpLastReference ∷ []) w p.seat.me q.seat.me → GivesUp hand answer p q (not b)
+      by : (b : Bool) → (nat_lt 1 w.references || w.task) ≡ b → Makes values (if b then GiveUpReference ∷ [] else GiveUpLastReference ∷ []) w p.seat.me q.seat.me → GivesUp hand answer p q (not b)
       by true is made = let m = moved.moved (GiveUpReference ∷ []) w (GivingUp hand answer) [] p q s made in
           not_last w is (moved.did p q (row GiveUpReference w ∷ []) (after_giving_up hand answer) [] cell m.viewed (keeps_places (GivingUp hand answer) (after_giving_up hand answer) [] q.seat.me.1 (given_work hand answer) (given_free hand answer) m.carried))
       by false is made = let m = moved.moved (GiveUpLastReference ∷ []) w (GivingUp hand answer) [] p q s made in let y = took_awaiter (GivingUp hand answer) (Emptier hand answer) [] q.seat.me.1 refl refl refl m.carried in
@@ -66,7 +67,7 @@ module _ {F T A : Type 0} where
   last_stands hand answer p q true (last w y f g) e = (y, moved.stands p q (row GiveUpLastReference w ∷ []) (Emptier hand answer) (awaiter_first y []) g)
   last_stands hand answer p q false (not_last w f g) e = absurd (cc)
 
-  pub emptied : (hand : Option ℕ) (answer : Answer) (y : Option A) (p q : Party F T A) (w : State) → StandsWith (Emptier hand answer) (awaiter_first y []) p → q.seat.block ≡ p.seat.block → Makes (emptying w) w p.seat.me q.seat.me
+  pub emptied : {values : Values F T} (hand : Option ℕ) (answer : Answer) (y : Option A) (p q : Party F T A) (w : State) → StandsWith (Emptier hand answer) (awaiter_first y []) p → q.seat.block ≡ p.seat.block → Makes values (emptying w) w p.seat.me q.seat.me
       → Did (act EmptySlots ∷ []) (after_giving_up hand answer) p q
   emptied hand answer y p q w s cell made = let m = moved.moved (EmptySlots ∷ []) w (Emptier hand answer) (awaiter_first y []) p q s made in
       moved.did p q (act EmptySlots ∷ []) (after_giving_up hand answer) [] cell m.viewed (gave_awaiter (Emptier hand answer) (after_giving_up hand answer) (awaiter_first y []) q.seat.me.1 (given_work hand answer) refl (given_free hand answer) m.carried)
@@ -84,38 +85,38 @@ module _ {F T A : Type 0} where
   releases_other hand answer p q false (not_last w f g) e = (row GiveUpReference w ∷ [], leaves_others w f, g)
   releases_other hand answer p q true (last w y f g) e = absurd (cc)
 
-  pub answered_ready : (held : List (ℕ × TaskPlace F T A)) (p q : Party F T A) (w : State) → StandsWith Polling held p → q.seat.block ≡ p.seat.block → Makes (answering_ready w) w p.seat.me q.seat.me → DidWith (act AnswerReady ∷ act DropFuture ∷ []) ReadyFutureDropped held p q
+  pub answered_ready : {values : Values F T} (held : List (ℕ × TaskPlace F T A)) (p q : Party F T A) (w : State) → StandsWith Polling held p → q.seat.block ≡ p.seat.block → Makes values (answering_ready w) w p.seat.me q.seat.me → DidWith (act AnswerReady ∷ act DropFuture ∷ []) ReadyFutureDropped held p q
   answered_ready held p q w s cell made = let m = moved.moved (AnswerReady ∷ DropFuture ∷ []) w Polling held p q s made in moved.did p q (act AnswerReady ∷ act DropFuture ∷ []) ReadyFutureDropped held cell m.viewed (keeps_places Polling ReadyFutureDropped held q.seat.me.1 refl refl m.carried)
 
   -- what is found closed is closed
-  at_closed : (acts : List Act) (w : State) (p q : Party F T A) → w.closed ≡ true → Makes acts w p.seat.me q.seat.me → Makes acts (record w { closed = true }) p.seat.me q.seat.me
-  at_closed acts w p q e made = subst (λ (v : State). Makes acts v p.seat.me q.seat.me) (sym (closed_already w e)) made
+  at_closed : {values : Values F T} (acts : List Act) (w : State) (p q : Party F T A) → w.closed ≡ true → Makes values acts w p.seat.me q.seat.me → Makes values acts (record w { closed = true }) p.seat.me q.seat.me
+  at_closed {values = values} acts w p q e made = subst (λ (v : State). Makes values acts v p.seat.me q.seat.me) (sym (closed_already w e)) made
 
-  pub answered_pending : (held : List (ℕ × TaskPlace F T A)) (p q : Party F T A) (w : State) → StandsWith Polling held p → q.seat.block ≡ p.seat.block → Makes (answering_pending w) w p.seat.me q.seat.me → AnswersPending held p q w.closed
-  answered_pending held p q w s cell made = by w.closed refl made
+  pub answered_pending : {values : Values F T} (held : List (ℕ × TaskPlace F T A)) (p q : Party F T A) (w : State) → StandsWith Polling held p → q.seat.block ≡ p.seat.block → Makes values (answering_pending w) w p.seat.me q.seat.me → AnswersPending held p q w.closed
+  answered_pending {values = values} held p q w s cell made = by w.closed refl made
     where
-      by : (b : Bool) → w.closed ≡ b → Makes (if b then AnswerPending ∷ DropFuture ∷ [] else AnswerPending ∷ []) w p.seat.me q.seat.me → AnswersPending held p q b
+      by : (b : Bool) → w.closed ≡ b → Makes values (if b then AnswerPending ∷ DropFuture ∷ [] else AnswerPending ∷ []) w p.seat.me q.seat.me → AnswersPending held p q b
       by true h made = let v : State = record w { closed = true } in let m = moved.moved (AnswerPending ∷ DropFuture ∷ []) v Polling held p q s (at_closed (AnswerPending ∷ DropFuture ∷ []) w p q h made) in
           clears (moved.did p q (act AnswerPending ∷ act DropFuture ∷ []) PendingFutureDropped held cell m.viewed (keeps_places Polling PendingFutureDropped held q.seat.me.1 refl refl m.carried))
       by false h made = let m = moved.moved (AnswerPending ∷ []) w Polling held p q s made in
           stays_pending (moved.did p q (act AnswerPending ∷ []) Pending held cell m.viewed (keeps_places Polling Pending held q.seat.me.1 refl refl m.carried))
 
-  pub found_closed_meanwhile : (limit : ℕ) (held : List (ℕ × TaskPlace F T A)) (p q : Party F T A) (w : State) → StandsWith Pending held p → q.seat.block ≡ p.seat.block → HasEnded limit to_end_pending w p.seat.me q.seat.me → DidWith (act DropFuture ∷ []) PendingFutureDropped held p q
+  pub found_closed_meanwhile : {values : Values F T} (limit : ℕ) (held : List (ℕ × TaskPlace F T A)) (p q : Party F T A) (w : State) → StandsWith Pending held p → q.seat.block ≡ p.seat.block → HasEnded values limit to_end_pending w p.seat.me q.seat.me → DidWith (act DropFuture ∷ []) PendingFutureDropped held p q
   found_closed_meanwhile limit held p q w s cell e = let v : State = record w { closed = true } in let m = moved.moved (DropFuture ∷ []) v Pending held p q s (at_closed (DropFuture ∷ []) w p q e.at_end e.made) in
       moved.did p q (act DropFuture ∷ []) PendingFutureDropped held cell m.viewed (keeps_places Pending PendingFutureDropped held q.seat.me.1 refl refl m.carried)
 
-  pub ended_closed : (p q : Party F T A) (w : State) → StandsWith PendingFutureDropped (work_first Empty []) p → q.seat.block ≡ p.seat.block → Makes (ending_closed w) w p.seat.me q.seat.me → (w.closed ≡ true) × Did (row EndClosed w ∷ []) (notifies w.awaiter OfRun) p q
+  pub ended_closed : {values : Values F T} (p q : Party F T A) (w : State) → StandsWith PendingFutureDropped (work_first Empty []) p → q.seat.block ≡ p.seat.block → Makes values (ending_closed w) w p.seat.me q.seat.me → (w.closed ≡ true) × Did (row EndClosed w ∷ []) (notifies w.awaiter OfRun) p q
   ended_closed p q w s cell made = let m = moved.moved (EndClosed ∷ []) w PendingFutureDropped (work_first Empty []) p q s made in
       (alone_fits EndClosed (limit_of p) w made.fits, moved.did p q (row EndClosed w ∷ []) (notifies w.awaiter OfRun) [] cell m.viewed (gave_work PendingFutureDropped (notifies w.awaiter OfRun) (work_first Empty []) q.seat.me.1 refl (due_work w.awaiter) m.carried))
 
-  pub dropped_output : (due : Bool) (p q : Party F T A) (w : State) → StandsWith (OutputInHand due) (work_first Empty []) p → q.seat.block ≡ p.seat.block → Makes (dropping_output w) w p.seat.me q.seat.me → Did (act DropOutput ∷ []) (notifies due OfRun) p q
+  pub dropped_output : {values : Values F T} (due : Bool) (p q : Party F T A) (w : State) → StandsWith (OutputInHand due) (work_first Empty []) p → q.seat.block ≡ p.seat.block → Makes values (dropping_output w) w p.seat.me q.seat.me → Did (act DropOutput ∷ []) (notifies due OfRun) p q
   dropped_output due p q w s cell made = let m = moved.moved (DropOutput ∷ []) w (OutputInHand due) (work_first Empty []) p q s made in
       moved.did p q (act DropOutput ∷ []) (notifies due OfRun) [] cell m.viewed (gave_work (OutputInHand due) (notifies due OfRun) (work_first Empty []) q.seat.me.1 refl (due_work due) m.carried)
 
-  pub completed : (z : Slot F T) (p q : Party F T A) (w : State) → StandsWith ReadyFutureDropped (work_first z []) p → q.seat.block ≡ p.seat.block → Makes (completing w) w p.seat.me q.seat.me → Completes p q w
-  completed z p q w s cell made = by w.task w.closed refl refl made
+  pub completed : {values : Values F T} (z : Slot F T) (p q : Party F T A) (w : State) → StandsWith ReadyFutureDropped (work_first z []) p → q.seat.block ≡ p.seat.block → Makes values (completing w) w p.seat.me q.seat.me → Completes p q w
+  completed {values = values} z p q w s cell made = by w.task w.closed refl refl made
     where
-      by : (b c : Bool) → w.task ≡ b → w.closed ≡ c → Makes (if b then StoreOutput ∷ Complete ∷ [] else StoreOutput ∷ CompleteDetached ∷ []) w p.seat.me q.seat.me → Completes p q w
+      by : (b c : Bool) → w.task ≡ b → w.closed ≡ c → Makes values (if b then StoreOutput ∷ Complete ∷ [] else StoreOutput ∷ CompleteDetached ∷ []) w p.seat.me q.seat.me → Completes p q w
       by true true h k made = let m = moved.moved (StoreOutput ∷ Complete ∷ []) w ReadyFutureDropped (work_first z []) p q s made in let e : (if w.closed then OutputInHand w.awaiter else notifies w.awaiter OfRun) ≡ OutputInHand w.awaiter = ap (λ b. if b then OutputInHand w.awaiter else notifies w.awaiter OfRun) k in
           finds_closed z h k (subst (λ (at : Position). DidWith (act StoreOutput ∷ row Complete w ∷ []) at (work_first z []) p q) e
           (moved.did p q (act StoreOutput ∷ row Complete w ∷ []) (if w.closed then OutputInHand w.awaiter else notifies w.awaiter OfRun) (work_first z []) cell m.viewed
@@ -127,8 +128,8 @@ module _ {F T A : Type 0} where
       by false c h k made = let m = moved.moved (StoreOutput ∷ CompleteDetached ∷ []) w ReadyFutureDropped (work_first z []) p q s made in
           finds_detached z h (moved.did p q (act StoreOutput ∷ row CompleteDetached w ∷ []) (OutputInHand w.awaiter) (work_first z []) cell m.viewed (keeps_places ReadyFutureDropped (OutputInHand w.awaiter) (work_first z []) q.seat.me.1 refl refl m.carried))
 
-  pub ended_pending : (limit : ℕ) (y : Slot F T) (p q : Party F T A) (r : PendingEnd) → StandsWith Pending (work_first y []) p → q.seat.block ≡ p.seat.block → HasChanged limit to_end_pending r p.seat.me q.seat.me → EndsPending (work_first y []) p q (Some r)
-  ended_pending limit y p q r s cell c = subst (λ (x : PendingEnd). EndsPending (work_first y []) p q (Some x)) (sym c.is) (by w.scheduled (nat_lt 1 w.references || w.task) refl refl c.made)
+  pub ended_pending : {values : Values F T} (limit : ℕ) (y : Slot F T) (p q : Party F T A) (r : PendingEnd) → StandsWith Pending (work_first y []) p → q.seat.block ≡ p.seat.block → HasChanged values limit to_end_pending r p.seat.me q.seat.me → EndsPending (work_first y []) p q (Some r)
+  ended_pending {values = values} limit y p q r s cell c = subst (λ (x : PendingEnd). EndsPending (work_first y []) p q (Some x)) (sym c.is) (by w.scheduled (nat_lt 1 w.references || w.task) refl refl c.made)
     where
       w : State
       w = c.word
@@ -136,7 +137,7 @@ module _ {F T A : Type 0} where
       unclosed : w.closed ≡ false
       unclosed = not_true w.closed c.applied
 
-      by : (b d : Bool) → w.scheduled ≡ b → (nat_lt 1 w.references || w.task) ≡ d → Makes (ending_pending (if b then Rescheduled else (if d then Idle else Orphaned))) w p.seat.me q.seat.me
+      by : (b d : Bool) → w.scheduled ≡ b → (nat_lt 1 w.references || w.task) ≡ d → Makes values (ending_pending (if b then Rescheduled else (if d then Idle else Orphaned))) w p.seat.me q.seat.me
           → EndsPending (work_first y []) p q (Some (if b then Rescheduled else (if d then Idle else Orphaned)))
       by true d h k made = let m = moved.moved (Reschedule ∷ []) w Pending (work_first y []) p q s made in
           is_rescheduled w unclosed h (moved.did p q (row Reschedule w ∷ []) (Deliverer true (ThenEnds (Ran true))) [] cell m.viewed (gave_work Pending (Deliverer true (ThenEnds (Ran true))) (work_first y []) q.seat.me.1 refl refl m.carried))
@@ -155,12 +156,12 @@ module _ {F T A : Type 0} where
   completes_then at held p q r w g (finds_closed z h k x) = finds_closed z h k (moved.did_then p q r [] (act StoreOutput ∷ row Complete w ∷ []) at (OutputInHand w.awaiter) held (work_first z []) g x)
   completes_then at held p q r w g (finds_detached z h x) = finds_detached z h (moved.did_then p q r [] (act StoreOutput ∷ row CompleteDetached w ∷ []) at (OutputInHand w.awaiter) held (work_first z []) g x)
 
-module _ (F T A : Type 0) (limit : ℕ) where
+module _ (F T A : Type 0) (values : Values F T) (limit : ℕ) where
   -- the rule allows a run to end: with its output, and without one
-  pub may_complete : (p : Party F T A) (z : Slot F T) → StandsWith ReadyFutureDropped (work_first z []) p → IsOutput z → MayTry limit 2 p.seat.id p.seat.me to_complete × MayBring limit p.seat.id p.seat.me to_complete
-  may_complete p z s is = may_bring_at limit p ReadyFutureDropped (work_first z []) s to_complete (λ w. refl) (completes F T A limit (deeds p) [] z (work_first z []) refl is)
-      (λ m f any. inl (refl, keeps_either m.word.task (StoreOutput ∷ Complete ∷ []) (StoreOutput ∷ CompleteDetached ∷ []) m.word refl refl)) (never_ends F T A limit to_complete ReadyFutureDropped (deeds p) [] (work_first z []) (λ w. refl))
+  pub may_complete : (p : Party F T A) (z : Slot F T) → StandsWith ReadyFutureDropped (work_first z []) p → IsOutput values z → MayTry values limit 2 p.seat.id p.seat.me to_complete × MayBring values limit p.seat.id p.seat.me to_complete
+  may_complete p z s is = may_bring_at limit p ReadyFutureDropped (work_first z []) s to_complete (λ w. refl) (completes F T A values limit (deeds p) [] z (work_first z []) refl is)
+      (λ m f any. inl (refl, keeps_either m.word.task (StoreOutput ∷ Complete ∷ []) (StoreOutput ∷ CompleteDetached ∷ []) m.word refl refl)) (never_ends F T A values limit to_complete ReadyFutureDropped (deeds p) [] (work_first z []) (λ w. refl))
 
-  pub may_end : (p : Party F T A) (y : Slot F T) → StandsWith Pending (work_first y []) p → IsFuture y → MayTry limit 2 p.seat.id p.seat.me to_end_pending × MayGive limit p.seat.id p.seat.me to_end_pending
-  may_end p y s is = may_give_at limit p Pending (work_first y []) s to_end_pending (λ w. refl) (ends_pending F T A limit (deeds p) [] y (work_first y []) refl is) (ends_open limit (deeds p) [] F T A)
-      (finds_closed_task F T A limit (deeds p) [] (work_first y []))
+  pub may_end : (p : Party F T A) (y : Slot F T) → StandsWith Pending (work_first y []) p → IsFuture values y → MayTry values limit 2 p.seat.id p.seat.me to_end_pending × MayGive values limit p.seat.id p.seat.me to_end_pending
+  may_end p y s is = may_give_at limit p Pending (work_first y []) s to_end_pending (λ w. refl) (ends_pending F T A values limit (deeds p) [] y (work_first y []) refl is) (ends_open limit (deeds p) [] F T A)
+      (finds_closed_task F T A values limit (deeds p) [] (work_first y []))

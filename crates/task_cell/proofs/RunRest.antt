@@ -1,4 +1,5 @@
 -- What the calls of a run and of a Runnable's drop come to, step after step.
+use Rattle.task_steps.specs.Values.{Values}
 use Rattle.task_cell.proofs.Vocabulary.{◌≡◌, ℕ, Bool, true, false, List, [], ◌∷◌, ◌++◌, Option, Some, None, refl, sym, ap, ◌∙◌, subst, State, Rest, Ended, NotifyingCall, OfRun, OfDrop, OfCancel}
 use Rattle.task_cell.proofs.Vocabulary.{DroppedRunnable, Position, At, CallEnding, Notifier, GivingUp, AwaiterInHand, FutureGone, EndCall, WakeAwaiter, DropFuture, Unschedule, Answer, Ran, Nothing}
 use Rattle.task_cell.proofs.Vocabulary.{after_taking, after_waking, notifies, Slot, Empty, Deed, Party, IsFuture, position, places_of, StandsWith, Stands, DidWith, Did, Notifies, misses}
@@ -98,7 +99,7 @@ module _ {F T A : Type 0} where
       (ap closing_way (moved.position_is q (FutureGone closer) held (moved.stands p q [] (FutureGone closer) held g))) h)
 
   -- a Runnable's drop from p, step after step: to a with the future taken over, to b with it taken out, to o with SCHEDULED cleared
-  module _ (p a b : Party F T A) (start : (d : Deed) × (y : Slot F T) × DiscardStart d × DidWith (d ∷ act DropFuture ∷ []) (FutureGone DroppedRunnable) (work_first y []) p a × IsFuture y)
+  module _ (p a b : Party F T A) (start : (d : Deed) × (y : Slot F T) × DiscardStart d × DidWith (d ∷ act DropFuture ∷ []) (FutureGone DroppedRunnable) (work_first y []) p a × IsFuture values y)
       (take : (at : Position) (y : Slot F T) (held : List (ℕ × TaskPlace F T A)) → StandsWith at (work_first y held) a → DidWith [] at (work_first Empty held) a b) where
     pub drop_clears : DidWith [] (FutureGone DroppedRunnable) (work_first Empty []) a b
     drop_clears = take (FutureGone DroppedRunnable) start.1 [] (moved.stands p a (start.0 ∷ act DropFuture ∷ []) (FutureGone DroppedRunnable) (work_first start.1 []) start.3)

@@ -1,4 +1,5 @@
 -- The parts of a run, put together.
+use Rattle.task_steps.specs.Values.{Values}
 use Rattle.task_cell.proofs.Vocabulary.{◌≡◌, ℕ, Bool, true, false, List, [], ◌∷◌, subst, State, FutureGone, Polling, ClosedRun, TakeUpClosed, DropFuture, StartRun, StartPoll, Slot, Deed}
 use Rattle.task_cell.proofs.Vocabulary.{Party, IsFuture, limit_of, DidWith, Did, row, act, as_ended, TakesUp, finds_closed, starts, RunPath}
 use Rattle.task_cell.proofs.Vocabulary.{Closes, EndsReady, EndsUnready, AnswersPending, stays_pending, clears, AnswerReady, ReadyFutureDropped, TaskPlace, work_first}
@@ -22,14 +23,14 @@ module _ {F T A : Type 0} where
     pub word : State
     pub place : Slot F T
     pub unclosed : word.closed ≡ false
-    pub future : IsFuture place
+    pub future : {values : Values F T} → IsFuture values place
     pub did : DidWith (row StartRun word ∷ act StartPoll ∷ []) Polling (work_first place []) p q
 
-  pub shut : (p q : Party F T A) (b : Bool) → TakesUp p q b → b ≡ false → Shut p q
+  pub shut : {values : Values F T} (p q : Party F T A) (b : Bool) → TakesUp values p q b → b ≡ false → Shut p q
   shut p q b (finds_closed w y e f g) is = record { word = w; place = y; closed = e; did = g }
   shut p q b (starts w y e f g) is = absurd (cc)
 
-  pub started : (p q : Party F T A) (b : Bool) → TakesUp p q b → b ≡ true → Started p q
+  pub started : {values : Values F T} (p q : Party F T A) (b : Bool) → TakesUp values p q b → b ≡ true → Started p q
   started p q b (finds_closed w y e f g) is = absurd (cc)
   started p q b (starts w y e f g) is = record { word = w; place = y; unclosed = e; future = f; did = g }
 

@@ -1,4 +1,5 @@
 -- What the steps of a cancel and of a detach come to for the party that made them.
+use Rattle.task_steps.specs.Values.{Values}
 use Rattle.task_cell.proofs.Vocabulary.{◌≡◌, ℕ, Bool, true, false, not, ◌&&◌, List, [], ◌∷◌, ◌++◌, Option, Some, None, refl, sym, subst, arith, nat_lt, nat_eq, if◌then◌else◌, State, is_open}
 use Rattle.task_cell.proofs.Vocabulary.{Answer, Nothing, Position, At, Deliverer, Emptier, OutputCloser, Detacher, CallEnding, Rest, Task, Ended, ThenEnds, OfCancel, CancelOver, CancelBusy}
 use Rattle.task_cell.proofs.Vocabulary.{CancelIdle, GiveUpOutput, DropOutput, DetachOrphan, DetachLast, Detach, EndCall, notifies, after_cancelling, owns_awaiter, Deed, Party, Busy}
@@ -32,33 +33,33 @@ module _ {F T A : Type 0} where
   bare a b q l e f c = subst (λ (z : Bool × Bool). Carries {F = F} {T = T} {A = A} false z.0 false z.1 q [] l) (λ i. (e i, f i)) c
 
   -- a cancel of a task that is over
-  pub looks_over : (limit : ℕ) (p q : Party F T A) (n : ℕ) (w : State) → Stands (as_task n) p → q.seat.block ≡ p.seat.block → HasEnded limit to_cancel w p.seat.me q.seat.me → Cancels n p q None
+  pub looks_over : {values : Values F T} (limit : ℕ) (p q : Party F T A) (n : ℕ) (w : State) → Stands (as_task n) p → q.seat.block ≡ p.seat.block → HasEnded values limit to_cancel w p.seat.me q.seat.me → Cancels n p q None
   looks_over limit p q n w s cell e = let x = moved (CancelOver ∷ EndCall ∷ []) w (At (Task n)) [] p q s e.made in
       (w, e.at_end, did p q (row CancelOver w ∷ act EndCall ∷ []) (At (Task n)) [] cell x.viewed x.carried)
 
   -- .. and the row of one that closes it
-  pub closes : (limit : ℕ) (p q : Party F T A) (n : ℕ) (r : Cancelled) → Stands (as_task n) p → q.seat.block ≡ p.seat.block → HasChanged limit to_cancel r p.seat.me q.seat.me → Cancels n p q (Some r)
-  closes limit p q n r s cell c = subst (λ (x : Cancelled). Cancels n p q (Some x)) (sym c.is) (made (found 0 CancelIdle w) refl c.made)
+  pub closes : {values : Values F T} (limit : ℕ) (p q : Party F T A) (n : ℕ) (r : Cancelled) → Stands (as_task n) p → q.seat.block ≡ p.seat.block → HasChanged values limit to_cancel r p.seat.me q.seat.me → Cancels n p q (Some r)
+  closes {values = values} limit p q n r s cell c = subst (λ (x : Cancelled). Cancels n p q (Some x)) (sym c.is) (made (found 0 CancelIdle w) refl c.made)
     where
       w : State
       w = c.word
 
-      made : (b : Bool) → found 0 CancelIdle w ≡ b → Makes (closing (if b then Idle w.awaiter else Busy w.awaiter)) w p.seat.me q.seat.me → Cancels n p q (Some (if b then Idle w.awaiter else Busy w.awaiter))
+      made : (b : Bool) → found 0 CancelIdle w ≡ b → Makes values (closing (if b then Idle w.awaiter else Busy w.awaiter)) w p.seat.me q.seat.me → Cancels n p q (Some (if b then Idle w.awaiter else Busy w.awaiter))
       made true fit m = let x = moved (CancelIdle ∷ []) w (At (Task n)) [] p q s m in
           (w, refl, fit, did p q (row CancelIdle w ∷ []) (Deliverer false (after_cancelling w.awaiter n)) [] cell x.viewed x.carried)
       made false unfit m = let x = moved (CancelBusy ∷ []) w (At (Task n)) [] p q s m in let at : Position = notifies w.awaiter (OfCancel n) in let i = idle_cancel w.awaiter n in
           (w, refl, busy_fits (is_open w) w.scheduled w.running c.applied unfit, did p q (row CancelBusy w ∷ []) at [] cell x.viewed (bare (has_work at) (owns_awaiter at) at q.seat.me.1 i.0 i.1 x.carried))
 
   -- the row of a detach
-  pub gives_up : (limit : ℕ) (p q : Party F T A) (n : ℕ) (r : Detached) → Stands (as_task n) p → q.seat.block ≡ p.seat.block → HasChanged limit to_detach r p.seat.me q.seat.me → Detaches p q r
-  gives_up limit p q n r s cell c = subst (Detaches p q) (sym c.is) (made (found 0 Detach w) (found 0 DetachLast w) (found 0 DetachOrphan w) refl refl refl c.made)
+  pub gives_up : {values : Values F T} (limit : ℕ) (p q : Party F T A) (n : ℕ) (r : Detached) → Stands (as_task n) p → q.seat.block ≡ p.seat.block → HasChanged values limit to_detach r p.seat.me q.seat.me → Detaches values p q r
+  gives_up {values = values} limit p q n r s cell c = subst (Detaches values p q) (sym c.is) (made (found 0 Detach w) (found 0 DetachLast w) (found 0 DetachOrphan w) refl refl refl c.made)
     where
       w : State
       w = c.word
 
       made : (a b c : Bool) → found 0 Detach w ≡ a → found 0 DetachLast w ≡ b → found 0 DetachOrphan w ≡ c
-          → Makes (detaching (if a then Shared else (if b then Last else (if c then Orphaned else Unclaimed)))) w p.seat.me q.seat.me
-          → Detaches p q (if a then Shared else (if b then Last else (if c then Orphaned else Unclaimed)))
+          → Makes values (detaching (if a then Shared else (if b then Last else (if c then Orphaned else Unclaimed)))) w p.seat.me q.seat.me
+          → Detaches values p q (if a then Shared else (if b then Last else (if c then Orphaned else Unclaimed)))
       made true b c fit y z m = let x = moved (Detach ∷ EndCall ∷ []) w (At (Task n)) [] p q s m in
           (w, fit, did p q (row Detach w ∷ act EndCall ∷ []) (At Ended) [] cell x.viewed x.carried)
       made false true c k fit z m = let x = moved (DetachLast ∷ []) w (At (Task n)) [] p q s m in let y = x.carried in
@@ -69,13 +70,13 @@ module _ {F T A : Type 0} where
           (w, y.0, output_left w.references w.completed w.closed k l z, y.1, did p q (row GiveUpOutput w ∷ []) OutputCloser (work_first y.0 []) cell x.viewed y.2)
 
   -- the Task is given up whose output was dropped
-  pub gives_rest : (p q r : Party F T A) (w : State) → Did (act DropOutput ∷ []) Detacher p q → r.seat.block ≡ q.seat.block → w.closed ≡ true → Makes (giving_task_up w) w q.seat.me r.seat.me → GivesTaskUp p r (nat_eq w.references 0)
-  gives_rest p q r w g cell closed m = subst (λ b. GivesTaskUp p r b) (tests w.references) (made (nat_lt 0 w.references) refl m)
+  pub gives_rest : {values : Values F T} (p q r : Party F T A) (w : State) → Did (act DropOutput ∷ []) Detacher p q → r.seat.block ≡ q.seat.block → w.closed ≡ true → Makes values (giving_task_up w) w q.seat.me r.seat.me → GivesTaskUp p r (nat_eq w.references 0)
+  gives_rest {values = values} p q r w g cell closed m = subst (λ b. GivesTaskUp p r b) (tests w.references) (made (nat_lt 0 w.references) refl m)
     where
       tests : (k : ℕ) → not (nat_lt 0 k) ≡ nat_eq k 0
       tests k = grind (arith, nat_tests)
 
-      made : (b : Bool) → nat_lt 0 w.references ≡ b → Makes (if b then Detach ∷ EndCall ∷ [] else DetachLast ∷ []) w q.seat.me r.seat.me → GivesTaskUp p r (not b)
+      made : (b : Bool) → nat_lt 0 w.references ≡ b → Makes values (if b then Detach ∷ EndCall ∷ [] else DetachLast ∷ []) w q.seat.me r.seat.me → GivesTaskUp p r (not b)
       made true counted m = let x = moved (Detach ∷ EndCall ∷ []) w Detacher [] q r (stands p q (act DropOutput ∷ []) Detacher [] g) m in
           let path : List Deed = row Detach w ∷ act EndCall ∷ [] in (
             w,
@@ -106,10 +107,10 @@ module _ {F T A : Type 0} where
     ends p r t (m.1 ++ k.0) Nothing (Task n) (did_then p q r m.1 k.0 (after_taking m.0 (OfCancel n)) (CallEnding Nothing (Task n)) [] [] m.3 k.2) e,
   )
 
-module _ (F T A : Type 0) (limit : ℕ) where
+module _ (F T A : Type 0) (values : Values F T) (limit : ℕ) where
   -- the rule allows a Task to cancel, and to be detached
-  pub may_cancel : (p : Party F T A) (n : ℕ) → Stands (as_task n) p → MayTry limit 2 p.seat.id p.seat.me to_cancel × MayBring limit p.seat.id p.seat.me to_cancel
-  may_cancel p n s = may_bring_at limit p (At (Task n)) [] s to_cancel (λ w. refl) (cancels F T A limit n (deeds p) [] []) (cancels_task limit n (deeds p) [] F T A) (finds_over F T A limit n (deeds p) [] [])
+  pub may_cancel : (p : Party F T A) (n : ℕ) → Stands (as_task n) p → MayTry values limit 2 p.seat.id p.seat.me to_cancel × MayBring values limit p.seat.id p.seat.me to_cancel
+  may_cancel p n s = may_bring_at limit p (At (Task n)) [] s to_cancel (λ w. refl) (cancels F T A values limit n (deeds p) [] []) (cancels_task limit n (deeds p) [] F T A) (finds_over F T A values limit n (deeds p) [] [])
 
-  pub may_detach : (p : Party F T A) (n : ℕ) → Stands (as_task n) p → MayTry limit 2 p.seat.id p.seat.me to_detach × MayGive limit p.seat.id p.seat.me to_detach
-  may_detach p n s = may_give_at limit p (At (Task n)) [] s to_detach (λ w. refl) (detaches F T A limit n (deeds p) [] []) (detaches_task limit n (deeds p) [] F T A) (never_ends F T A limit to_detach (At (Task n)) (deeds p) [] [] (λ w. refl))
+  pub may_detach : (p : Party F T A) (n : ℕ) → Stands (as_task n) p → MayTry values limit 2 p.seat.id p.seat.me to_detach × MayGive values limit p.seat.id p.seat.me to_detach
+  may_detach p n s = may_give_at limit p (At (Task n)) [] s to_detach (λ w. refl) (detaches F T A values limit n (deeds p) [] []) (detaches_task limit n (deeds p) [] F T A) (never_ends F T A values limit to_detach (At (Task n)) (deeds p) [] [] (λ w. refl))

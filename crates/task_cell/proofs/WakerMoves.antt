@@ -1,4 +1,5 @@
 -- What the steps of a lent waker, and of a waker's drop, come to for the party that made them.
+use Rattle.task_steps.specs.Values.{Values}
 use Rattle.task_cell.proofs.Vocabulary.{◌≡◌, ℕ, Bool, true, false, List, [], ◌∷◌, Option, Some, None, IfSome, is_some, refl, sym, ap, ◌∙◌, subst, nat_lt, if◌then◌else◌, Me, State, is_open}
 use Rattle.task_cell.proofs.Vocabulary.{Slots, is_held, Nothing, Waker, Lent, Ended, ThenEnds, Position, At, Deliverer, Emptier, OrphanHolder, Act, GainReference, FindLimit}
 use Rattle.task_cell.proofs.Vocabulary.{DropWaker, DropLastWaker, OrphanTask, CloseOrphan, WakeOver, WakeScheduled, WakeRunning, WakeIdle, EndCall, Deed, Member, View, Party, Shared}
@@ -32,10 +33,10 @@ module _ {F T A : Type 0} where
   abbrev Beside : List Deed → List Member → Party F T A → Party F T A → Type 0
   Beside path more p q = q.seat.me ≡ (view (limit_of p) (member (At Lent) (after path (deeds p)) ∷ more), [])
 
-  back : (w : State) (acts : List Act) (path : List Deed) (more : List Member) (p q : Party F T A) → Stands (At Lent) p → ((slots : Slots) (l : ℕ) (ds : List Deed) → acted w slots acts (view l (member (At Lent) ds ∷ [])) ≡ view l (member (At Lent) (after path ds) ∷ more))
-      → Makes acts w p.seat.me q.seat.me → Beside path more p q
-  back w acts path more p q s lead m = let x = moved acts w (At Lent) [] p q s m in let viewed = x.viewed ∙ lead x.slots (limit_of p) (deeds p) in
-      let carried = subst (λ (at : Position). Carried (At Lent) at [] q.seat.me.1) (ap (λ (v : View). (head_of v.members).at) (lead x.slots (limit_of p) (deeds p))) x.carried in
+  back : {values : Values F T} (w : State) (acts : List Act) (path : List Deed) (more : List Member) (p q : Party F T A) → Stands (At Lent) p → ((slots : Slots) (l : ℕ) (ds : List Deed) → acted w slots acts (view l (member (At Lent) ds ∷ [])) ≡ view l (member (At Lent) (after path ds) ∷ more))
+      → Makes values acts w p.seat.me q.seat.me → Beside path more p q
+  back {values = values} w acts path more p q s lead m = let x = moved acts w (At Lent) [] p q s m in let viewed = x.viewed ∙ lead x.slots (limit_of p) (deeds p) in
+      let carried = subst (λ (at : Position). Carried values (At Lent) at [] q.seat.me.1) (ap (λ (v : View). (head_of v.members).at) (lead x.slots (limit_of p) (deeds p))) x.carried in
       (λ i. (viewed i, keeps_places (At Lent) (At Lent) [] q.seat.me.1 refl refl carried i))
 
   -- a party that has done nothing, alone on its seat
@@ -101,7 +102,7 @@ module _ {F T A : Type 0} where
   gain_gives limit block p q (Some d) cell is (gains_one path x w g n) = (n.cell ∙ cell, n.is ∙ ap (λ l. (view l (fresh as_waker ∷ []), [])) is)
 
   -- the seat after the row of a gain, and what it comes to when the waker has left it
-  pub beside_waker : (limit : ℕ) (r : Unit {0}) (p q : Party F T A) → Stands (At Lent) p → (c : HasChanged limit to_gain r p.seat.me q.seat.me) → Beside (row GainReference c.word ∷ act EndCall ∷ []) (fresh (At Waker) ∷ []) p q
+  pub beside_waker : {values : Values F T} (limit : ℕ) (r : Unit {0}) (p q : Party F T A) → Stands (At Lent) p → (c : HasChanged values limit to_gain r p.seat.me q.seat.me) → Beside (row GainReference c.word ∷ act EndCall ∷ []) (fresh (At Waker) ∷ []) p q
   beside_waker limit r p q s x = let w = x.word in back w (GainReference ∷ EndCall ∷ []) (row GainReference w ∷ act EndCall ∷ []) (fresh (At Waker) ∷ []) p q s (λ slots l ds. refl) x.made
 
   leaves_newest : (path : List Deed) (n : Member) (p q t : Party F T A) → Beside path (n ∷ []) p q → q.seat.block ≡ p.seat.block → t.seat.block ≡ q.seat.block → t.seat.me ≡ (without_newest q.seat.me.0, q.seat.me.1) → Did path (At Lent) p t
@@ -110,28 +111,28 @@ module _ {F T A : Type 0} where
   is_newest : (path : List Deed) (at : Position) (p q x : Party F T A) → Beside path (fresh at ∷ []) p q → q.seat.block ≡ p.seat.block → x.seat.block ≡ q.seat.block → x.seat.me ≡ (newest q.seat.me.0, []) → IsNew at p x
   is_newest path at p q x b cell there is = record { cell = there ∙ cell; is = is ∙ ap (λ (y : Me (TaskPlace F T A) View). (newest y.0, [])) b }
 
-  pub gains_waker : (limit : ℕ) (r : Unit {0}) (p q t x : Party F T A) → Stands (At Lent) p → q.seat.block ≡ p.seat.block → HasChanged limit to_gain r p.seat.me q.seat.me → t.seat.block ≡ q.seat.block → t.seat.me ≡ (without_newest q.seat.me.0, q.seat.me.1)
+  pub gains_waker : {values : Values F T} (limit : ℕ) (r : Unit {0}) (p q t x : Party F T A) → Stands (At Lent) p → q.seat.block ≡ p.seat.block → HasChanged values limit to_gain r p.seat.me q.seat.me → t.seat.block ≡ q.seat.block → t.seat.me ≡ (without_newest q.seat.me.0, q.seat.me.1)
       → x.seat.block ≡ q.seat.block → x.seat.me ≡ (newest q.seat.me.0, []) → Gains limit p t (Some x)
   gains_waker limit r p q t x s cell c there is there' is' = let w = c.word in let path : List Deed = row GainReference w ∷ act EndCall ∷ [] in let b = beside_waker limit r p q s c in
       gains_one path x (is_gained w (right_true (is_held w) _ c.applied)) (leaves_newest path (fresh (At Waker)) p q t b cell there is) (is_newest path (At Waker) p q x b cell there' is')
 
-  pub gains_nothing : (limit : ℕ) (w : State) (p q : Party F T A) → Stands (At Lent) p → q.seat.block ≡ p.seat.block → HasEnded limit to_gain w p.seat.me q.seat.me → Gains limit p q None
+  pub gains_nothing : {values : Values F T} (limit : ℕ) (w : State) (p q : Party F T A) → Stands (At Lent) p → q.seat.block ≡ p.seat.block → HasEnded values limit to_gain w p.seat.me q.seat.me → Gains limit p q None
   gains_nothing limit w p q s cell x = let path : List Deed = row FindLimit w ∷ act EndCall ∷ [] in
       gains_none path (finds_limit w (not_true (nat_lt w.references limit) x.at_end)) (record { cell = cell; is = back w (FindLimit ∷ EndCall ∷ []) path [] p q s (λ slots l ds. refl) x.made })
 
   -- a wake of a task that is over
-  pub wakes_over : (limit : ℕ) (w : State) (p q : Party F T A) → Stands (At Lent) p → q.seat.block ≡ p.seat.block → HasEnded limit to_wake w p.seat.me q.seat.me → WakesTask p q None
+  pub wakes_over : {values : Values F T} (limit : ℕ) (w : State) (p q : Party F T A) → Stands (At Lent) p → q.seat.block ≡ p.seat.block → HasEnded values limit to_wake w p.seat.me q.seat.me → WakesTask p q None
   wakes_over limit w p q s cell x = let path : List Deed = row WakeOver w ∷ act EndCall ∷ [] in
       makes_none path (paths.is_over w x.at_end) (record { cell = cell; is = back w (WakeOver ∷ EndCall ∷ []) path [] p q s (λ slots l ds. refl) x.made })
 
   -- .. of one that is scheduled, or runs
-  pub wakes_busy : (limit : ℕ) (r : Woken) (p q : Party F T A) → Stands (At Lent) p → q.seat.block ≡ p.seat.block → HasChanged limit to_wake r p.seat.me q.seat.me → brings_runnable r ≡ false → WakesTask p q None
-  wakes_busy limit r p q s cell x busy = by (found 0 WakeIdle w) (found 0 WakeRunning w) refl refl (ap brings_runnable (sym x.is) ∙ busy) x.made
+  pub wakes_busy : {values : Values F T} (limit : ℕ) (r : Woken) (p q : Party F T A) → Stands (At Lent) p → q.seat.block ≡ p.seat.block → HasChanged values limit to_wake r p.seat.me q.seat.me → brings_runnable r ≡ false → WakesTask p q None
+  wakes_busy {values = values} limit r p q s cell x busy = by (found 0 WakeIdle w) (found 0 WakeRunning w) refl refl (ap brings_runnable (sym x.is) ∙ busy) x.made
     where
       w : State
       w = x.word
 
-      by : (a b : Bool) → found 0 WakeIdle w ≡ a → found 0 WakeRunning w ≡ b → let r : Woken = if a then Idle else (if b then Running else Scheduled) in brings_runnable r ≡ false → Makes (waking_task r) w p.seat.me q.seat.me → WakesTask p q None
+      by : (a b : Bool) → found 0 WakeIdle w ≡ a → found 0 WakeRunning w ≡ b → let r : Woken = if a then Idle else (if b then Running else Scheduled) in brings_runnable r ≡ false → Makes values (waking_task r) w p.seat.me q.seat.me → WakesTask p q None
       by true b idle too none m = absurd (cc)
       by false true unfit fit none m = let path : List Deed = row WakeRunning w ∷ act EndCall ∷ [] in
           makes_none path (is_running w fit) (record { cell = cell; is = back w (WakeRunning ∷ EndCall ∷ []) path [] p q s (λ slots l ds. refl) m })
@@ -139,29 +140,29 @@ module _ {F T A : Type 0} where
           makes_none path (is_scheduled w (scheduled_fits w (right_true (is_held w) (is_open w) x.applied) busy unfit)) (record { cell = cell; is = back w (WakeScheduled ∷ EndCall ∷ []) path [] p q s (λ slots l ds. refl) m })
 
   -- .. of one that was idle: the seat after the row, and what it comes to when the deliverer has left it
-  pub beside_deliverer : (limit : ℕ) (r : Woken) (p q : Party F T A) → Stands (At Lent) p → (x : HasChanged limit to_wake r p.seat.me q.seat.me) → brings_runnable r ≡ true
+  pub beside_deliverer : {values : Values F T} (limit : ℕ) (r : Woken) (p q : Party F T A) → Stands (At Lent) p → (x : HasChanged values limit to_wake r p.seat.me q.seat.me) → brings_runnable r ≡ true
       → (found 0 WakeIdle x.word ≡ true) × Beside (row WakeIdle x.word ∷ act EndCall ∷ []) (fresh as_deliverer ∷ []) p q
-  beside_deliverer limit r p q s x idle = by (found 0 WakeIdle w) (found 0 WakeRunning w) refl (ap brings_runnable (sym x.is) ∙ idle) x.made
+  beside_deliverer {values = values} limit r p q s x idle = by (found 0 WakeIdle w) (found 0 WakeRunning w) refl (ap brings_runnable (sym x.is) ∙ idle) x.made
     where
       w : State
       w = x.word
 
-      by : (a b : Bool) → found 0 WakeIdle w ≡ a → let r : Woken = if a then Idle else (if b then Running else Scheduled) in brings_runnable r ≡ true → Makes (waking_task r) w p.seat.me q.seat.me
+      by : (a b : Bool) → found 0 WakeIdle w ≡ a → let r : Woken = if a then Idle else (if b then Running else Scheduled) in brings_runnable r ≡ true → Makes values (waking_task r) w p.seat.me q.seat.me
           → (found 0 WakeIdle w ≡ true) × Beside (row WakeIdle w ∷ act EndCall ∷ []) (fresh as_deliverer ∷ []) p q
       by true b fit some m = (fit, back w (WakeIdle ∷ EndCall ∷ []) (row WakeIdle w ∷ act EndCall ∷ []) (fresh as_deliverer ∷ []) p q s (λ slots l ds. refl) m)
       by false true unfit some m = absurd (cc)
       by false false unfit some m = absurd (cc)
 
-  pub wakes_idle : (limit : ℕ) (r : Woken) (p q t d : Party F T A) → Stands (At Lent) p → q.seat.block ≡ p.seat.block → HasChanged limit to_wake r p.seat.me q.seat.me → brings_runnable r ≡ true
+  pub wakes_idle : {values : Values F T} (limit : ℕ) (r : Woken) (p q t d : Party F T A) → Stands (At Lent) p → q.seat.block ≡ p.seat.block → HasChanged values limit to_wake r p.seat.me q.seat.me → brings_runnable r ≡ true
       → t.seat.block ≡ q.seat.block → t.seat.me ≡ (without_newest q.seat.me.0, q.seat.me.1) → d.seat.block ≡ q.seat.block → d.seat.me ≡ (newest q.seat.me.0, []) → WakesTask p t (Some d)
   wakes_idle limit r p q t d s cell x idle there is there' is' = let path : List Deed = row WakeIdle x.word ∷ act EndCall ∷ [] in let b = beside_deliverer limit r p q s x idle in
       makes_one path d (is_idle x.word b.0) (leaves_newest path (fresh as_deliverer) p q t b.1 cell there is) (is_newest path as_deliverer p q d b.1 cell there' is')
 
   -- the row of a waker's drop
-  pub drops : (w : State) (p q : Party F T A) → Stands as_waker p → q.seat.block ≡ p.seat.block → Makes (dropping_waker w) w p.seat.me q.seat.me → DropsWaker p q (dropped_by w)
-  drops w p q s cell m = made (others_left w) (is_open w) refl refl m
+  pub drops : {values : Values F T} (w : State) (p q : Party F T A) → Stands as_waker p → q.seat.block ≡ p.seat.block → Makes values (dropping_waker w) w p.seat.me q.seat.me → DropsWaker p q (dropped_by w)
+  drops {values = values} w p q s cell m = made (others_left w) (is_open w) refl refl m
     where
-      made : (b o : Bool) → others_left w ≡ b → is_open w ≡ o → Makes (dropping_as (if b then Shared else (if o then Orphaned else Last))) w p.seat.me q.seat.me
+      made : (b o : Bool) → others_left w ≡ b → is_open w ≡ o → Makes values (dropping_as (if b then Shared else (if o then Orphaned else Last))) w p.seat.me q.seat.me
           → DropsWaker p q (if b then Shared else (if o then Orphaned else Last))
       made true o shared now m = let x = moved (DropWaker ∷ EndCall ∷ []) w (At Waker) [] p q s m in
           (w, shared, did p q (row DropWaker w ∷ act EndCall ∷ []) (At Ended) [] cell x.viewed x.carried)
@@ -171,13 +172,13 @@ module _ {F T A : Type 0} where
           (w, y.0, shared, now, did p q (row DropLastWaker w ∷ []) (Emptier None Nothing) (awaiter_first y.0 []) cell x.viewed y.2)
 
   -- the last waker has closed the task
-  pub closes_orphan : (w : State) (p q : Party F T A) → Stands OrphanHolder p → q.seat.block ≡ p.seat.block → Makes (closing_orphan w) w p.seat.me q.seat.me → (v : State) × Did (row CloseOrphan v ∷ []) (Deliverer false (ThenEnds Nothing)) p q
+  pub closes_orphan : {values : Values F T} (w : State) (p q : Party F T A) → Stands OrphanHolder p → q.seat.block ≡ p.seat.block → Makes values (closing_orphan w) w p.seat.me q.seat.me → (v : State) × Did (row CloseOrphan v ∷ []) (Deliverer false (ThenEnds Nothing)) p q
   closes_orphan w p q s cell m = let x = moved (CloseOrphan ∷ []) w OrphanHolder [] p q s m in (w, did p q (row CloseOrphan w ∷ []) (Deliverer false (ThenEnds Nothing)) [] cell x.viewed x.carried)
 
-module _ (F T A : Type 0) (limit : ℕ) where
+module _ (F T A : Type 0) (values : Values F T) (limit : ℕ) where
   -- the rule allows a lent waker to gain a reference, and to wake
-  pub may_gain : (p : Party F T A) → Stands (At Lent) p → limit_of p ≡ limit → MayTry limit 2 p.seat.id p.seat.me to_gain × MayBring limit p.seat.id p.seat.me to_gain
-  may_gain p s is = may_bring_at limit p (At Lent) [] s to_gain (λ w. ap (λ l. at_limit l w) is) (owed.gains F T A limit Lent (deeds p) [] [] refl) (gains_handle limit Lent (deeds p) [] F T A) (owed.finds_limit F T A limit Lent (deeds p) [] [] refl)
+  pub may_gain : (p : Party F T A) → Stands (At Lent) p → limit_of p ≡ limit → MayTry values limit 2 p.seat.id p.seat.me to_gain × MayBring values limit p.seat.id p.seat.me to_gain
+  may_gain p s is = may_bring_at limit p (At Lent) [] s to_gain (λ w. ap (λ l. at_limit l w) is) (owed.gains F T A values limit Lent (deeds p) [] [] refl) (gains_handle limit Lent (deeds p) [] F T A) (owed.finds_limit F T A values limit Lent (deeds p) [] [] refl)
 
-  pub may_wake : (p : Party F T A) → Stands (At Lent) p → MayTry limit 2 p.seat.id p.seat.me to_wake × MayBring limit p.seat.id p.seat.me to_wake
-  may_wake p s = may_bring_at limit p (At Lent) [] s to_wake (λ w. refl) (owed.wakes F T A limit Lent (deeds p) [] [] refl) (wakes_task limit Lent (deeds p) [] F T A) (owed.finds_over F T A limit Lent (deeds p) [] [] refl)
+  pub may_wake : (p : Party F T A) → Stands (At Lent) p → MayTry values limit 2 p.seat.id p.seat.me to_wake × MayBring values limit p.seat.id p.seat.me to_wake
+  may_wake p s = may_bring_at limit p (At Lent) [] s to_wake (λ w. refl) (owed.wakes F T A values limit Lent (deeds p) [] [] refl) (wakes_task limit Lent (deeds p) [] F T A) (owed.finds_over F T A values limit Lent (deeds p) [] [] refl)

@@ -9,6 +9,8 @@ use Rattle.task_cell.specs.declared.cell.block.MaybeShare.{MaybeShare}
 use Rattle.task_cell.specs.declared.cell.ledger.Ledger.{Ledger}
 use Rattle.task_steps.specs.declared.table.Deed.{Deed}
 use Rattle.task_steps.specs.Deeds.{after}
+use Rattle.task_steps.specs.Values.{Values, values_of}
+use Rattle.task_steps.specs.declared.kept.Kept.{Kept}
 use Rattle.task_steps.specs.Rule.{member, view}
 use Rattle.task_steps.specs.Standing.{as_ended, as_lent}
 
@@ -19,7 +21,15 @@ module _ {R F Q M A B O : Type 0} {G : Ghosts F O} where
 
   -- the limit of references of its cell
   abbrev pub limit_in : Share R F Q M A B O G → ℕ
-  limit_in share = share.block.key
+  limit_in share = share.block.key.limit
+
+  -- the future by which its task was spawned
+  abbrev pub spawned_in : Share R F Q M A B O G → F
+  spawned_in share = share.block.key.future.value
+
+  -- what its rule says of each value in the place of the work
+  abbrev pub values_in : Share R F Q M A B O G → Values F (Kept F O G)
+  values_in share = values_of G (spawned_in share)
 
   -- another share of the same cell
   abbrev pub IsSame : Share R F Q M A B O G → Share R F Q M A B O G → Type 0
@@ -33,12 +43,12 @@ module _ {R F Q M A B O T : Type 0} {G : Ghosts F O} where
   -- a party of this cell that was lent for a call has done this in it, and nothing else
   abbrev pub HasMade : Share R F Q M A B O G → List Deed → Party F T A → Type 0
   HasMade share path party =
-      (party.seat.block ≡ share.block.id) × (party.seat.me ≡ (view share.block.key (member as_lent (after path []) ∷ []), []))
+      (party.seat.block ≡ share.block.id) × (party.seat.me ≡ (view share.block.key.limit (member as_lent (after path []) ∷ []), []))
 
   -- .. or a party that was there before has, and has ended by it
   abbrev pub HasEnded : Share R F Q M A B O G → List Deed → Party F T A → Type 0
   HasEnded share path party =
-      (party.seat.block ≡ share.block.id) × (party.seat.me ≡ (view share.block.key (member as_ended (after path []) ∷ []), []))
+      (party.seat.block ≡ share.block.id) × (party.seat.me ≡ (view share.block.key.limit (member as_ended (after path []) ∷ []), []))
 
   -- the ledger is of the party's cell
   abbrev pub IsBeside : Ledger R F Q M A B O G → Party F T A → Type 0
@@ -48,5 +58,5 @@ module _ {R F Q M A B O : Type 0} {G : Ghosts F O} where
   -- a step of this share's holder has made or left a share of the same cell where this is true
   pub record Leaves (share : Share R F Q M A B O G) (maybe : MaybeShare R F Q M A B O G) (there : Bool) : Type 0 where
     pub cell : (maybe.maybe.id ≡ share.block.id) × (maybe.maybe.value ≡ share.block.value)
-    pub limit : maybe.maybe.key ≡ share.block.key
+    pub terms : maybe.maybe.key ≡ share.block.key
     pub is_there : maybe.maybe.there ≡ there

@@ -14,6 +14,7 @@ use Rattle.task_steps.specs.declared.places.Held.{Held}
 use Rattle.task_steps.specs.declared.table.Deed.{Deed}
 use Rattle.task_steps.specs.declared.table.View.{View}
 use Rattle.task_cell.specs.declared.cell.Party.{Party}
+use Rattle.task_steps.specs.Values.{Values}
 use Rattle.task_steps.specs.Rule.{member, view, fresh, RuleHolds, Waits, TaskPlace}
 use Rattle.task_steps.specs.Deeds.{row, act, after}
 use Rattle.task_steps.specs.Standing.{way_of}
@@ -52,40 +53,40 @@ module _ {F T A : Type 0} where
   Stands at p = StandsWith at [] p
 
   -- the rule allows a seat to write this number in the place of the one that it finds, and to go on like this
-  abbrev pub MayWrite : ℕ → ℕ → Me (TaskPlace F T A) View → (ℕ → ℕ) → (ℕ → Me (TaskPlace F T A) View → Type 0) → Type 0
-  MayWrite limit id me write then = Allows (RuleHolds {F = F} {T = T} {A = A} limit) 2 id me 0 write then
+  abbrev pub MayWrite : Values F T → ℕ → ℕ → Me (TaskPlace F T A) View → (ℕ → ℕ) → (ℕ → Me (TaskPlace F T A) View → Type 0) → Type 0
+  MayWrite values limit id me write then = Allows (RuleHolds {A = A} values limit) 2 id me 0 write then
 
   -- .. which leaves as many shares out
-  abbrev pub KeepsShares : ℕ → ℕ → Me (TaskPlace F T A) View → (ℕ → ℕ) → Type 0
-  KeepsShares limit id me write = Same (RuleHolds {F = F} {T = T} {A = A} limit) shares_out id me.0 write
+  abbrev pub KeepsShares : Values F T → ℕ → ℕ → Me (TaskPlace F T A) View → (ℕ → ℕ) → Type 0
+  KeepsShares values limit id me write = Same (RuleHolds {A = A} values limit) shares_out id me.0 write
 
   -- the step brings a share where this says so
-  abbrev pub BringsShare : ℕ → ℕ → Me (TaskPlace F T A) View → (ℕ → ℕ) → (ℕ → Bool) → Type 0
-  BringsShare limit id me write counts = More (RuleHolds {F = F} {T = T} {A = A} limit) shares_out id me.0 write counts
+  abbrev pub BringsShare : Values F T → ℕ → ℕ → Me (TaskPlace F T A) View → (ℕ → ℕ) → (ℕ → Bool) → Type 0
+  BringsShare values limit id me write counts = More (RuleHolds {A = A} values limit) shares_out id me.0 write counts
 
   -- the step ends a share where this says so
-  abbrev pub EndsShare : ℕ → ℕ → Me (TaskPlace F T A) View → (ℕ → ℕ) → (ℕ → Bool) → Type 0
-  EndsShare limit id me write counts = Less (RuleHolds {F = F} {T = T} {A = A} limit) shares_out id me.0 write counts
+  abbrev pub EndsShare : Values F T → ℕ → ℕ → Me (TaskPlace F T A) View → (ℕ → ℕ) → (ℕ → Bool) → Type 0
+  EndsShare values limit id me write counts = Less (RuleHolds {A = A} values limit) shares_out id me.0 write counts
 
   -- the party has made these acts by the word that was found, of which it knows what it has seen before
-  abbrev pub HasActed : (State → List Act) → Party F T A → ℕ → Me (TaskPlace F T A) View → Type 0
-  HasActed acts p n me = Makes (acts (state_of n)) (state_of n) p.seat.me me × Knows (deeds p) (state_of n)
+  abbrev pub HasActed : Values F T → (State → List Act) → Party F T A → ℕ → Me (TaskPlace F T A) View → Type 0
+  HasActed values acts p n me = Makes values (acts (state_of n)) (state_of n) p.seat.me me × Knows (deeds p) (state_of n)
 
   -- the rule allows the party these acts, which leave as many shares out
-  abbrev pub MayMake : ℕ → (State → List Act) → (ℕ → ℕ) → Party F T A → Type 0
-  MayMake limit acts write p = MayWrite limit p.seat.id p.seat.me write (HasActed acts p) × KeepsShares limit p.seat.id p.seat.me write
+  abbrev pub MayMake : Values F T → ℕ → (State → List Act) → (ℕ → ℕ) → Party F T A → Type 0
+  MayMake values limit acts write p = MayWrite values limit p.seat.id p.seat.me write (HasActed values acts p) × KeepsShares values limit p.seat.id p.seat.me write
 
   -- .. where the party gives a handle up, and its share with it where it says so
-  abbrev pub MayGiveUp : ℕ → (State → List Act) → (State → Bool) → (ℕ → ℕ) → Party F T A → Type 0
-  MayGiveUp limit acts gives write p = MayWrite limit p.seat.id p.seat.me write (HasActed acts p) × EndsShare limit p.seat.id p.seat.me write (λ n. gives (state_of n))
+  abbrev pub MayGiveUp : Values F T → ℕ → (State → List Act) → (State → Bool) → (ℕ → ℕ) → Party F T A → Type 0
+  MayGiveUp values limit acts gives write p = MayWrite values limit p.seat.id p.seat.me write (HasActed values acts p) × EndsShare values limit p.seat.id p.seat.me write (λ n. gives (state_of n))
 
   -- .. to cut its view in two: it keeps the left part
-  abbrev pub MaySplit : ℕ → (View → View) → (View → View) → Party F T A → Type 0
-  MaySplit limit left right p = Splits (RuleHolds {F = F} {T = T} {A = A} limit) p.seat.id p.seat.me.0 (left p.seat.me.0) (right p.seat.me.0)
+  abbrev pub MaySplit : Values F T → ℕ → (View → View) → (View → View) → Party F T A → Type 0
+  MaySplit values limit left right p = Splits (RuleHolds {A = A} values limit) p.seat.id p.seat.me.0 (left p.seat.me.0) (right p.seat.me.0)
 
   -- .. and private acts, without a step
-  abbrev pub MayNote : ℕ → (State → List Act) → Party F T A → Type 0
-  MayNote limit acts p = Notes (RuleHolds {F = F} {T = T} {A = A} limit) p.seat.id p.seat.me (HasActed acts p)
+  abbrev pub MayNote : Values F T → ℕ → (State → List Act) → Party F T A → Type 0
+  MayNote values limit acts p = Notes (RuleHolds {A = A} values limit) p.seat.id p.seat.me (HasActed values acts p)
 
   -- p did this path, and is q now: it stands here, and has these places
   pub record DidWith (path : List Deed) (at : Position) (held : List (ℕ × TaskPlace F T A)) (p q : Party F T A) : Type 0 where

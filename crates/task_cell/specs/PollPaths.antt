@@ -12,6 +12,7 @@ use Rattle.task_laws.specs.Table.{notifies, first_look, after_storing}
 use Rattle.task_steps.specs.declared.table.Slot.{Slot}
 use Rattle.task_steps.specs.declared.table.Deed.{Deed}
 use Rattle.task_cell.specs.declared.cell.Party.{Party}
+use Rattle.task_steps.specs.Values.{Values}
 use Rattle.task_steps.specs.Rule.{IsOutput, Waits as SlotWaits}
 use Rattle.task_steps.specs.Steps.{work_first, awaiter_first}
 use Rattle.task_cell.specs.Calls.{Fits, Did, DidWith, places_of, position}
@@ -89,25 +90,25 @@ IfOutput Refused P = ⊤
 
 module _ {F T A : Type 0} where
   -- by this path the output was claimed, on this word
-  pub record ClaimsOutput (w : State) (path : List Deed) (p q : Party F T A) : Type 0 where
+  pub record ClaimsOutput (values : Values F T) (w : State) (path : List Deed) (p q : Party F T A) : Type 0 where
     pub there : has_output w ≡ true
     pub output : Slot F T
-    pub is_output : IsOutput output
+    pub is_output : IsOutput values output
     pub did : DidWith path (notifies w.awaiter (OfClaim (poll_number (position p)))) (work_first output []) p q
 
   -- the first look of a poll
-  pub data Looks (p q : Party F T A) : Result State State → Type 0 where
-    claims_output : (w : State) → ClaimsOutput w (row ClaimOutput w ∷ []) p q → Looks p q (Ok w)
+  pub data Looks (values : Values F T) (p q : Party F T A) : Result State State → Type 0 where
+    claims_output : (w : State) → ClaimsOutput values w (row ClaimOutput w ∷ []) p q → Looks values p q (Ok w)
     sees_none : (w : State) → has_output w ≡ false → Did (row Look w ∷ []) (first_look w (poll_number (position p))) p q
-        → Looks p q (Err w)
+        → Looks values p q (Err w)
 
   -- .. and the one after it has registered
-  pub data LooksAgain (p q : Party F T A) : Result State State → Type 0 where
-    claims_output_now : (w : State) → ClaimsOutput w (row Look w ∷ row ClaimOutput w ∷ []) p q → LooksAgain p q (Ok w)
+  pub data LooksAgain (values : Values F T) (p q : Party F T A) : Result State State → Type 0 where
+    claims_output_now : (w : State) → ClaimsOutput values w (row Look w ∷ row ClaimOutput w ∷ []) p q → LooksAgain values p q (Ok w)
     has_to_wait_on : (w : State) → has_to_wait w ≡ true → Did (row Look w ∷ act EndCall ∷ []) (as_task (poll_number (position p))) p q
-        → LooksAgain p q (Err w)
+        → LooksAgain values p q (Err w)
     sees_end : (w : State) → has_to_wait w ≡ false → has_ended w ≡ true
-        → Did (row Look w ∷ []) (Notifier (OfPoll (poll_number (position p)))) p q → LooksAgain p q (Err w)
+        → Did (row Look w ∷ []) (Notifier (OfPoll (poll_number (position p)))) p q → LooksAgain values p q (Err w)
 
   -- the awaiter slot is taken, unless there is a notifier
   pub data BeginsRegister (p q : Party F T A) : Bool → Type 0 where

@@ -16,6 +16,7 @@ use Rattle.task_steps.specs.declared.task.Cancelled.{Cancelled}
 use Rattle.task_steps.specs.declared.task.Cancelled.TheVariants.{Busy, Idle}
 use Rattle.task_steps.specs.declared.task.Detached.{Detached}
 use Rattle.task_steps.specs.declared.task.Detached.TheVariants.{Unclaimed, Shared, Last, Orphaned}
+use Rattle.task_steps.specs.Values.{Values}
 use Rattle.task_steps.specs.Rule.{IsOutput}
 use Rattle.task_steps.specs.Steps.{work_first, awaiter_first}
 use Rattle.task_cell.specs.Calls.{Fits, DidWith, Did}
@@ -66,14 +67,14 @@ module _ {F T A : Type 0} where
       (w : State) × (w.awaiter ≡ due) × Fits CancelIdle w × Did (row CancelIdle w ∷ []) (Deliverer false (after_cancelling due n)) p q
 
   -- the row by which a Task is given up
-  abbrev pub Detaches : Party F T A → Party F T A → Detached → Type 0
-  Detaches p q Unclaimed =
-      (w : State) × (z : Slot F T) × Fits GiveUpOutput w × IsOutput z
+  abbrev pub Detaches : Values F T → Party F T A → Party F T A → Detached → Type 0
+  Detaches values p q Unclaimed =
+      (w : State) × (z : Slot F T) × Fits GiveUpOutput w × IsOutput values z
       × DidWith (row GiveUpOutput w ∷ []) OutputCloser (work_first z []) p q
-  Detaches p q Shared = (w : State) × Fits Detach w × Did (row Detach w ∷ act EndCall ∷ []) as_ended p q
-  Detaches p q Last =
+  Detaches values p q Shared = (w : State) × Fits Detach w × Did (row Detach w ∷ act EndCall ∷ []) as_ended p q
+  Detaches values p q Last =
       (w : State) × (y : Option A) × Fits DetachLast w × DidWith (row DetachLast w ∷ []) (Emptier None Nothing) (awaiter_first y []) p q
-  Detaches p q Orphaned = (w : State) × Fits DetachOrphan w × Did (row DetachOrphan w ∷ []) (Deliverer false (ThenEnds Nothing)) p q
+  Detaches values p q Orphaned = (w : State) × Fits DetachOrphan w × Did (row DetachOrphan w ∷ []) (Deliverer false (ThenEnds Nothing)) p q
 
   -- the output that nobody claimed was dropped, and the Task given up; whether the slots are to be emptied
   abbrev pub GivesTaskUp : Party F T A → Party F T A → Bool → Type 0

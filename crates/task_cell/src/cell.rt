@@ -58,7 +58,7 @@ pub(crate) struct RunnableSeat<R, F: Yields, Q, M, A, B: Allocator + Copy> {
     pub(crate) share: Share<R, F, Q, M, A, B>,
     pub(crate) party: Party<F, Kept<F>, A>,
     ghost seated: { party.seat.block ≡ share.block.id },
-    ghost placed: { party.seat.me ≡ (view share.block.key (fresh as_runnable ∷ []), []) },
+    ghost placed: { party.seat.me ≡ (view share.block.key.limit (fresh as_runnable ∷ []), []) },
 }
 
 impl<R: Wait + Drop + Copy, F: Yields, Q: Drop, M: Drop, A: Wake, B: Allocator + Copy> RunnableSeat<
@@ -75,7 +75,7 @@ impl<R: Wait + Drop + Copy, F: Yields, Q: Drop, M: Drop, A: Wake, B: Allocator +
         party: Party<F, Kept<F>, A>,
     ) -> RunnableSeat<R, F, Q, M, A, B>
         requires cell { party.seat.block ≡ share.block.id }
-        requires party { party.seat.me ≡ (view share.block.key (fresh as_runnable ∷ []), []) }
+        requires party { party.seat.me ≡ (view share.block.key.limit (fresh as_runnable ∷ []), []) }
         ensures { result.share ≡ share }
     {
         RunnableSeat { share, party }
@@ -85,7 +85,7 @@ impl<R: Wait + Drop + Copy, F: Yields, Q: Drop, M: Drop, A: Wake, B: Allocator +
     pub(crate) fn into_party(self) -> (Share<R, F, Q, M, A, B>, Party<F, Kept<F>, A>)
         ensures share { result.0 ≡ self.share }
         ensures is { result.1 ≡ self.party }
-        ensures cell { (result.1.seat.block ≡ result.0.block.id) × (limit_of result.1 ≡ result.0.block.key) }
+        ensures cell { (result.1.seat.block ≡ result.0.block.id) × (limit_of result.1 ≡ limit_in result.0) }
         ensures party { Stands as_runnable result.1 × (deeds result.1 ≡ []) }
     {
         let RunnableSeat { share, party } = self;
@@ -139,7 +139,7 @@ impl<
         around: X,
     ) -> Runnable<R, F, Q, M, A, X, B>
         requires cell { party.seat.block ≡ share.block.id }
-        requires party { party.seat.me ≡ (view share.block.key (fresh as_runnable ∷ []), []) }
+        requires party { party.seat.me ≡ (view share.block.key.limit (fresh as_runnable ∷ []), []) }
         ensures cell { result.inner.share ≡ share }
         ensures around { result.around ≡ around }
     {

@@ -33,6 +33,9 @@ pub trait Yields: Drop {
 
     // What holds of each output. Without a definition nothing is said of it.
     ghost meets: { Self.Output → Type 0 } = { λ _. ⊤ };
+
+    // What a poll does: the future before it, its answer, and the future after it. Without a definition nothing is said of it. By it the output that a task hands out is known from the future that was spawned.
+    ghost moves: { Self → Poll Self.Output → Self → Type 0 } = { λ _ _ _. ⊤ };
 }
 
 /// A future that is polled with a waker of type `W`.
@@ -43,9 +46,10 @@ pub trait Future<W>: Yields {
     /// Carries the computation on.
     ///
     /// `waker` is lent for this poll alone. A future that answers `Poll::Pending` keeps a clone of it, and wakes that clone once a further poll can help.
-    /// An output that is answered meets `meets`, and `polled` holds of the call. After `Poll::Ready` there is no further call.
+    /// An output that is answered meets `meets`, and `moves` and `polled` hold of the call. After `Poll::Ready` there is no further call.
     fn poll(&mut self, waker: &W) -> Poll<Self::Output>
         ensures meets { IfReady result Self.Yields.meets }
+        ensures moves { Self.Yields.moves self.old result self.new }
         ensures fact { polled self.old waker.now result self.new };
 }
 

@@ -5,6 +5,7 @@ use Rattle.atomic_table.specs.Table.{rest}
 use Rattle.task_steps.proofs.Vocabulary.{State, state_of, number_of, Answer, Rest, NotifyingCall, OfRun, CallEnding, Notifier, Releaser}
 use Rattle.task_steps.proofs.Vocabulary.{AwaiterInHand, EndCall, WakeAwaiter, DropAwaiter, MissNotify, BeginNotify, TakeAwaiter, Slots, after_taking, after_waking, may_drop, owns_awaiter}
 use Rattle.task_steps.proofs.Vocabulary.{Awaiting, await, awaiting, state_of_number_of, fetch_or-notifying, fetch_and-awaiter_notifying, TaskPlace, Deed, Member}
+use Rattle.task_steps.specs.Values.{Values}
 use Rattle.task_steps.specs.Rule.{has_work, Waits}
 use Rattle.task_steps.specs.Steps.{awaiter_first}
 use Rattle.task_steps.specs.Scripts.{taking_awaiter, releasing_awaiter}
@@ -58,20 +59,20 @@ module _ (limit : ℕ) where
   pub drops : (i : ℕ) (way : NotifyingCall) (ds : List Deed) (us : List Member) → may_drop way ≡ true → OwesNote limit (DropAwaiter ∷ []) (AwaiterInHand i way) ds us
   drops i way ds us may m f = noted (guarded may) refl (λ j. (off_work i way j, off_free way j, m.slots, 0, 0))
 
-module _ (F T A : Type 0) (limit : ℕ) where
-  pub takes : (way : NotifyingCall) (ds : List Deed) (us : List Member) (l : List (ℕ × TaskPlace F T A)) → Owes F T A limit taking_awaiter (λ n. bit_or n 128) (Notifier way) ds us l
+module _ (F T A : Type 0) (values : Values F T) (limit : ℕ) where
+  pub takes : (way : NotifyingCall) (ds : List Deed) (us : List Member) (l : List (ℕ × TaskPlace F T A)) → Owes F T A values limit taking_awaiter (λ n. bit_or n 128) (Notifier way) ds us l
   takes way ds us l m f x e lt = by (m.word.notifying || m.word.registering) refl
     where
       sets : bit_or x 128 ≡ number_of (record (m.word) { notifying = true })
       sets = fetch_or-notifying x ∙ ap (λ (w : State). number_of (record w { notifying = true })) (ap state_of e ∙ state_of_number_of m.word)
 
-      by : (b : Bool) → (m.word.notifying || m.word.registering) ≡ b → Steps m (Notifier way) (if b then MissNotify ∷ [] else BeginNotify ∷ TakeAwaiter ∷ []) (bit_or x 128) l
+      by : (b : Bool) → (m.word.notifying || m.word.registering) ≡ b → Steps values m (Notifier way) (if b then MissNotify ∷ [] else BeginNotify ∷ TakeAwaiter ∷ []) (bit_or x 128) l
       by true h = by_table m (row_fits h) sets (refl, refl) (stays (on_work None way) (on_free None way) (inr (refl, refl)) (inr refl))
       by false h = by_table m (row_fits (neither m.word.notifying m.word.registering h)) sets (refl, refl)
           (takes_awaiter refl refl (same_way m.slots.awaiter way) (inr (refl, refl)) (λ y w. w))
 
   pub releases_awaiter : (hand : Option ℕ) (way : NotifyingCall) (ds : List Deed) (us : List Member) (l : List (ℕ × TaskPlace F T A)) → l ≡ awaiter_first None (rest l)
-      → Owes F T A limit releasing_awaiter (λ n. bit_and n 18446744073709551455) (Releaser hand way) ds us l
+      → Owes F T A values limit releasing_awaiter (λ n. bit_and n 18446744073709551455) (Releaser hand way) ds us l
   releases_awaiter hand way ds us l has m f x e lt = by_table m refl (fetch_and-awaiter_notifying x lt ∙ ap (λ (w : State). number_of (record w { awaiter = false; notifying = false })) (ap state_of e ∙ state_of_number_of m.word)) (refl, refl)
       (gives_awaiter None refl (on_free hand way) (on_work hand way ∙ sym (same_way hand way)) (inr (refl, refl)) has (subst (λ (x : Option ℕ). Waits {A = A} x None) (sym none) tt))
     where

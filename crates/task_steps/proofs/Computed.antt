@@ -7,6 +7,7 @@ use Rattle.task_steps.specs.Rule.{has_work}
 use Rattle.task_steps.specs.Steps.{spot, then_leaves, and_then}
 use Rattle.task_steps.specs.Attempt.{word_after}
 use Rattle.task_steps.proofs.Acts.{leads, leads_word}
+use Rattle.task_steps.specs.Values.{Values}
 use Rattle.task_steps.proofs.Advance.{Steps, Placing, keeps_places, places_after, places_before}
 
 abbrev left_by : Scene → State → Line → Outcome
@@ -59,8 +60,8 @@ word_total : (m : Machine) (p : Position) (acts : List Act) → may (scene m) ac
 word_total m p acts allowed = ap number_of (sym (leads_word (scene m) acts p (total (scene m) acts p) (leads_total (scene m) acts p allowed)))
 
 -- a step of acts that the table allows, by the places that the party takes or gives back
-pub by_table : {F T A : Type 0} (m : Machine) {p : Position} {acts : List Act} {new : ℕ} {l : List (ℕ × TaskPlace F T A)} → may (scene m) acts p ≡ true → new ≡ number_of (word_after m.word acts)
-    → (how_many has_work (total (scene m) acts p).born ≡ 0) × (how_many owns_awaiter (total (scene m) acts p).born ≡ 0) → Placing m p (total (scene m) acts p) l → Steps m p acts new l
+pub by_table : {F T A : Type 0} {values : Values F T} (m : Machine) {p : Position} {acts : List Act} {new : ℕ} {l : List (ℕ × TaskPlace F T A)} → may (scene m) acts p ≡ true → new ≡ number_of (word_after m.word acts)
+    → (how_many has_work (total (scene m) acts p).born ≡ 0) × (how_many owns_awaiter (total (scene m) acts p).born ≡ 0) → Placing values m p (total (scene m) acts p) l → Steps values m p acts new l
 by_table m {p} {acts} allowed writes idle placing = record {
   outcome = total (scene m) acts p;
   leads_to = leads_total (scene m) acts p allowed;
@@ -70,9 +71,9 @@ by_table m {p} {acts} allowed writes idle placing = record {
 }
 
 -- .. that leave the places as they are
-pub computed : {F T A : Type 0} (m : Machine) {p : Position} {acts : List Act} {new : ℕ} {l : List (ℕ × TaskPlace F T A)} → may (scene m) acts p ≡ true → new ≡ number_of (word_after m.word acts)
-    → places_after (total (scene m) acts p) ≡ places_before m p → Steps m p acts new l
-computed m {p} {acts} allowed writes same = keeps_places (total (scene m) acts p) (leads_total (scene m) acts p allowed) (writes ∙ word_total m p acts allowed) same
+pub computed : {F T A : Type 0} {values : Values F T} (m : Machine) {p : Position} {acts : List Act} {new : ℕ} {l : List (ℕ × TaskPlace F T A)} → may (scene m) acts p ≡ true → new ≡ number_of (word_after m.word acts)
+    → places_after (total (scene m) acts p) ≡ places_before m p → Steps values m p acts new l
+computed {values = values} m {p} {acts} allowed writes same = keeps_places values (total (scene m) acts p) (leads_total (scene m) acts p allowed) (writes ∙ word_total m p acts allowed) same
 
 -- .. and the word too, so that they need no step
 pub record Keeps (m : Machine) (p : Position) (acts : List Act) : Type 0 where

@@ -5,6 +5,7 @@ use Rattle.std.proofs.lemmas.Bool.Decides.{nat_tests}
 use Rattle.task_core.specs.Rows.{found}
 use Rattle.task_steps.proofs.Vocabulary.{WakeRunning, WakeIdle, CancelIdle, EndCall, Detach, DetachLast, DetachOrphan, GiveUpReference, GiveUpLastReference}
 use Rattle.task_steps.proofs.Vocabulary.{State, bit, is_open, Event, Answer, Rest, Waker, Task, At, GivingUp, Detacher, OrphanHolder, Pending, Slots, is_held, Machine, census, Census, Holds, Deed, Member}
+use Rattle.task_steps.specs.Values.{Values}
 use Rattle.task_steps.specs.WakerScripts.{waking_task, brings_runnable, to_gain, to_wake, others_left, dropped_by, dropping_as, dropping_waker, ends_waker, closing_orphan}
 use Rattle.task_steps.specs.declared.waker.Dropped.{Dropped}
 use Rattle.task_steps.specs.declared.waker.Dropped.TheVariants.{Shared as DroppedShared, Last as DroppedLast, Orphaned as DroppedOrphan}
@@ -106,12 +107,12 @@ module _ (limit : ℕ) where
   finds_orphan ds us m f = orphan_free m.limit m.word m.slots m.trace (census m.parties) f.invariant.holds (counted (λ c. c.orphans) (λ a b. refl) m.parties f.number OrphanHolder f.stands)
 
   -- a reference more for a new waker, where the task has a handle
-  pub gains_handle : (r : Rest) (ds : List Deed) (us : List Member) (F T A : Type 0) → Moves F T A limit Brings to_gain (At r) ds us
-  gains_handle r ds us F T A m f applied = let held = held_one m.word (left_true (is_held m.word) _ applied) in inr (refl, (let sum : handles (word_after m.word (acts_on to_gain m.word)) ≡ handles m.word + 1 = omega arith in ap at_least_one sum ∙ one_more (handles m.word) held))
+  pub gains_handle : (r : Rest) (ds : List Deed) (us : List Member) (F T A : Type 0) (values : Values F T) → Moves F T A values limit Brings to_gain (At r) ds us
+  gains_handle r ds us F T A values m f applied = let held = held_one m.word (left_true (is_held m.word) _ applied) in inr (refl, (let sum : handles (word_after m.word (acts_on to_gain m.word)) ≡ handles m.word + 1 = omega arith in ap at_least_one sum ∙ one_more (handles m.word) held))
 
   -- a wake of an idle task makes a Runnable
-  pub wakes_task : (r : Rest) (ds : List Deed) (us : List Member) (F T A : Type 0) → Moves F T A limit Brings to_wake (At r) ds us
-  wakes_task r ds us F T A m f applied = by (found 0 WakeIdle m.word) (found 0 WakeRunning m.word)
+  pub wakes_task : (r : Rest) (ds : List Deed) (us : List Member) (F T A : Type 0) (values : Values F T) → Moves F T A values limit Brings to_wake (At r) ds us
+  wakes_task r ds us F T A values m f applied = by (found 0 WakeIdle m.word) (found 0 WakeRunning m.word)
     where
       held : 1 ≤ handles m.word
       held = held_one m.word (left_true (is_held m.word) (is_open m.word) applied)
@@ -122,8 +123,8 @@ module _ (limit : ℕ) where
       by false false = inl (refl, refl)
 
   -- .. and so does a cancel of one
-  pub cancels_task : (n : ℕ) (ds : List Deed) (us : List Member) (F T A : Type 0) → Moves F T A limit Brings to_cancel (At (Task n)) ds us
-  cancels_task n ds us F T A m f applied = by (found 0 CancelIdle m.word)
+  pub cancels_task : (n : ℕ) (ds : List Deed) (us : List Member) (F T A : Type 0) (values : Values F T) → Moves F T A values limit Brings to_cancel (At (Task n)) ds us
+  cancels_task n ds us F T A values m f applied = by (found 0 CancelIdle m.word)
     where
       held : 1 ≤ handles m.word
       held = let t = finds_task n ds us m f in omega arith
@@ -133,8 +134,8 @@ module _ (limit : ℕ) where
       by false = inl (refl, refl)
 
   -- a run of an open task that ends
-  pub ends_open : (ds : List Deed) (us : List Member) (F T A : Type 0) → Moves F T A limit Gives to_end_pending Pending ds us
-  ends_open ds us F T A m f applied = by m.word.scheduled (others_left m.word) refl refl
+  pub ends_open : (ds : List Deed) (us : List Member) (F T A : Type 0) (values : Values F T) → Moves F T A values limit Gives to_end_pending Pending ds us
+  ends_open ds us F T A values m f applied = by m.word.scheduled (others_left m.word) refl refl
     where
       some : 1 ≤ m.word.references
       some = finds_run ds us m f
@@ -145,8 +146,8 @@ module _ (limit : ℕ) where
       by false false h k = inl (refl, (let one = others_none m.word k in last_one (handles m.word) 1 one (omega arith)))
 
   -- a Task that is given up
-  pub detaches_task : (n : ℕ) (ds : List Deed) (us : List Member) (F T A : Type 0) → Moves F T A limit Gives to_detach (At (Task n)) ds us
-  detaches_task n ds us F T A m f applied = by (found 0 Detach m.word) (found 0 DetachLast m.word) (found 0 DetachOrphan m.word) refl refl refl
+  pub detaches_task : (n : ℕ) (ds : List Deed) (us : List Member) (F T A : Type 0) (values : Values F T) → Moves F T A values limit Gives to_detach (At (Task n)) ds us
+  detaches_task n ds us F T A values m f applied = by (found 0 Detach m.word) (found 0 DetachLast m.word) (found 0 DetachOrphan m.word) refl refl refl
     where
       task : bit m.word.task ≡ 1
       task = finds_task n ds us m f

@@ -23,7 +23,8 @@ use Rattle.task_laws.proofs.Runs.{Invariant}
 use Rattle.task_steps.specs.declared.table.Deed.{Deed}
 use Rattle.task_steps.specs.declared.table.Member.{Member}
 use Rattle.task_steps.specs.declared.table.View.{View}
-use Rattle.task_steps.specs.Rule.{TaskPlace, Entry, Reaches, noted_if, deeds_of, fresh, opening_at, has_work, Lies, Waits, Running}
+use Rattle.task_steps.specs.Values.{Values}
+use Rattle.task_steps.specs.Rule.{TaskPlace, Entry, Reaches, noted_if, deeds_of, has_work, Lies, Waits, Running}
 use Rattle.task_steps.specs.Shares.{is_emptying, has_emptied}
 use Rattle.task_steps.specs.Left.{EmptyAtClose, NothingLies}
 use Rattle.task_steps.proofs.Explains.{next_machine}
@@ -129,7 +130,7 @@ nobody limit w slots t c h e = record {
   output = λ few. grind (arith, nat_tests);
 }
 
-module _ (F T A : Type 0) (limit : ℕ) (s : Board (TaskPlace F T A) View) (r : Running {F = F} {T = T} {A = A} limit s) (empties : 1 ≤ how_often event.Empties r.machine.trace) where
+module _ (F T A : Type 0) (values : Values F T) (limit : ℕ) (s : Board (TaskPlace F T A) View) (r : Running {A = A} values limit s) (empties : 1 ≤ how_often event.Empties r.machine.trace) where
   abbrev m : Machine
   m = r.machine
 
@@ -139,30 +140,22 @@ module _ (F T A : Type 0) (limit : ℕ) (s : Board (TaskPlace F T A) View) (r : 
   n : Nobody m.slots (census m.parties)
   n = nobody m.limit m.word m.slots m.trace (census m.parties) i.holds empties
 
-  filled : r.filled ≡ true
-  filled = by r.filled refl
-    where
-      by : (b : Bool) → r.filled ≡ b → b ≡ true
-      by true e = refl
-      by false e = let u = r.unfilled e in let k = r.told.each 0 0 (opening_at u.stage limit) (fresh (At Runnable)) u.first refl in
-          absurd (let q = counted (λ c. c.queued) (λ a b. refl) m.parties k.0 (At Runnable) k.1.at in let a = n.queued in omega arith)
-
   taken : m.slots.awaiter ≡ None
   taken = ⊎_elim (λ (z : how_often event.Empties m.trace ≡ 0). absurd (omega (arith, z, empties))) (λ z. z) ((i.shakes 0).left_empty)
 
   pub nothing_lies : NothingLies s
   nothing_lies = let c = claimed m.parties in let w = n.work in let t = n.tasks in let f = n.finishing in let e = n.emptiers in
       let idle : how_many has_work m.parties ≡ 0 = omega (arith, works m.parties) in let free : how_many owns_awaiter m.parties ≡ 0 = omega (arith, owners m.parties) in
-      let y = r.housed.work filled idle in let a = r.housed.awaiter free in record {
-        work = (y.0, y.1, subst (λ (b : Bool × Bool). Lies b.0 b.1 y.0) (λ i. (n.future i, n.output c i)) y.2);
+      let y = r.housed.work idle in let a = r.housed.awaiter free in record {
+        work = (y.0, y.1, subst (λ (b : Bool × Bool). Lies values b.0 b.1 y.0) (λ i. (n.future i, n.output c i)) y.2);
         awaiter = (a.0, a.1, subst (λ v. Waits v a.0) taken a.2);
       }
 
 at_first : (v : View) (u : Member) (us : List Member) → v.members ≡ u ∷ us → get_elem? v.members 0 ≡ some u
 at_first v u us e = ap (λ l. get_elem? l 0) e
 
-pub empty_at_close : (F T A : Type 0) → EmptyAtClose F T A
-empty_at_close F T A limit s rule id v u us seat first did =
+pub empty_at_close : (F T A : Type 0) (values : Values F T) → EmptyAtClose values A
+empty_at_close F T A values limit s rule id v u us seat first did =
     let r = rule.running in
     let k = r.told.each id 0 v u seat (at_first v u us first) in
-    nothing_lies F T A limit s r (log_empties limit k.0 r.log r.machine r.told.reaches (ap has_emptied k.1.did.1 ∙ more_deeds u.deeds k.1.did.0 did))
+    nothing_lies F T A values limit s r (log_empties limit k.0 r.log r.machine r.told.reaches (ap has_emptied k.1.did.1 ∙ more_deeds u.deeds k.1.did.0 did))

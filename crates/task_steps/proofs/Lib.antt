@@ -12,7 +12,7 @@ pub mod Allowed
 pub mod Owed
 pub mod Seats
 pub mod Lending
-pub mod Laid
+pub mod Opening
 pub mod Left
 pub mod AwaiterOwed
 pub mod RunOwed

@@ -6,6 +6,7 @@ use Rattle.task_steps.proofs.Vocabulary.{State, state_of, number_of, found, writ
 use Rattle.task_steps.proofs.Vocabulary.{RefuseClone, Answering, Registrar, UnusedClone, Registered, TookBack, CloneInHand, Task, Act, Look, ClaimOutput, EndCall, Slots, leaves_slots}
 use Rattle.task_steps.proofs.Vocabulary.{when, notifies, first_look, second_look, after_storing, Machine, scene, count, is_task_poll, owns_awaiter, Census, census, Awaiting, awaiting, HandshakeHolds, Holds, state_of_number_of}
 use Rattle.task_steps.proofs.Vocabulary.{DropAwaiter, WakeAwaiter, fetch_and-awaiter_registering_notifying, Invariant, TaskPlace, Empty, Deed, Member}
+use Rattle.task_steps.specs.Values.{Values}
 use Rattle.task_steps.specs.Rule.{has_work, Waits}
 use Rattle.task_steps.specs.Steps.{and_then, spot, work_first, awaiter_first, TakesOutput, Works, Awaits}
 use Rattle.task_steps.specs.PollScripts.{has_output, has_ended, has_to_wait, handing_out, ending_notified, to_look, to_look_again, to_begin_register, to_end_register}
@@ -102,22 +103,22 @@ module _ (limit : ℕ) where
   pub wakes_clone : (i : ℕ) (ds : List Deed) (us : List Member) → OwesNote limit (WakeAwaiter ∷ []) (CloneInHand i) ds us
   wakes_clone i ds us m f = noted refl refl refl
 
-module _ (F T A : Type 0) (limit : ℕ) where
-  pub looks : (n : ℕ) (ds : List Deed) (us : List Member) (l : List (ℕ × TaskPlace F T A)) → OwesEnd F T A limit to_look (At (Task n)) ds us l
+module _ (F T A : Type 0) (values : Values F T) (limit : ℕ) where
+  pub looks : (n : ℕ) (ds : List Deed) (us : List Member) (l : List (ℕ × TaskPlace F T A)) → OwesEnd F T A values limit to_look (At (Task n)) ds us l
   looks n ds us l m f number x lt e = let f = first_free m.word (n + 1) in by_table m (guarded e) x (refl, refl)
       (stays f.0 f.1 (inr (refl, refl)) (inr refl))
 
-  looks_again_by : (m : Machine) (i number : ℕ) (l : List (ℕ × TaskPlace F T A)) (b : Bool) → has_to_wait m.word ≡ b → number ≡ number_of m.word → Steps m (Looking i) (if b then Look ∷ EndCall ∷ [] else Look ∷ []) number l
-  looks_again_by m i number l true e x = keeps_places (leaves_slots (scene m) m.word (At (Task i)) [] (TaskPollEnds i IsPending ∷ []))
+  looks_again_by : (m : Machine) (i number : ℕ) (l : List (ℕ × TaskPlace F T A)) (b : Bool) → has_to_wait m.word ≡ b → number ≡ number_of m.word → Steps values m (Looking i) (if b then Look ∷ EndCall ∷ [] else Look ∷ []) number l
+  looks_again_by m i number l true e x = keeps_places values (leaves_slots (scene m) m.word (At (Task i)) [] (TaskPollEnds i IsPending ∷ []))
       (ap (λ (p : Position). and_then (Some (leaves_slots (scene m) m.word p [] [])) (λ o. leads (spot m.limit o.word o.slots) (EndCall ∷ []) o.next)) (has_waited m.word i e)) x refl
   looks_again_by m i number l false e x = let f = second_free m.word i in by_table m refl x (refl, refl) (stays f.0 f.1 (inr (refl, refl)) (inr refl))
 
-  pub looks_again : (i : ℕ) (ds : List Deed) (us : List Member) (l : List (ℕ × TaskPlace F T A)) → OwesEnd F T A limit to_look_again (Looking i) ds us l
+  pub looks_again : (i : ℕ) (ds : List Deed) (us : List Member) (l : List (ℕ × TaskPlace F T A)) → OwesEnd F T A values limit to_look_again (Looking i) ds us l
   looks_again i ds us l m f number x lt e = looks_again_by m i number l (has_to_wait m.word) refl x
 
   claims_by : (m : Machine) (p : Position) (acts : List Act) (i : ℕ) (told : List Event) (l : List (ℕ × TaskPlace F T A)) → Free p → has_output m.word ≡ true
       → leads (scene m) acts p ≡ and_then (when (found 0 ClaimOutput m.word) (leaves_slots (scene m) (written ClaimOutput m.word) (notifies m.word.awaiter (OfClaim i)) [] told)) (λ o. leads (spot m.limit o.word o.slots) [] o.next)
-      → m.slots.output ≡ true → Steps m p acts (number_of (written ClaimOutput m.word)) l
+      → m.slots.output ≡ true → Steps values m p acts (number_of (written ClaimOutput m.word)) l
   claims_by m p acts i told l free fit is there = let f = claim_works m.word.awaiter i in record {
     outcome = leaves_slots (scene m) (written ClaimOutput m.word) (notifies m.word.awaiter (OfClaim i)) [] told;
     leads_to = is ∙ ap (λ (b : Bool). and_then (when b (leaves_slots (scene m) (written ClaimOutput m.word) (notifies m.word.awaiter (OfClaim i)) [] told)) (λ o. leads (spot m.limit o.word o.slots) [] o.next)) fit;
@@ -126,15 +127,15 @@ module _ (F T A : Type 0) (limit : ℕ) where
     placing = takes_output free.0 f.0 (f.1 ∙ sym free.1) (inr refl) there (works m.word.awaiter);
   }
     where
-      works : (b : Bool) (l' : List (ℕ × TaskPlace F T A)) → TakesOutput l l' → Works (notifies b (OfClaim i)) l l'
+      works : (b : Bool) (l' : List (ℕ × TaskPlace F T A)) → TakesOutput values l l' → Works values (notifies b (OfClaim i)) l l'
       works true l' h = h
       works false l' h = h
 
-  pub hands_out : (i : ℕ) (ds : List Deed) (us : List Member) (l : List (ℕ × TaskPlace F T A)) → l ≡ work_first Empty (rest l) → Owes F T A limit handing_out (λ n. n) (TookOutput i) ds us l
+  pub hands_out : (i : ℕ) (ds : List Deed) (us : List Member) (l : List (ℕ × TaskPlace F T A)) → l ≡ work_first Empty (rest l) → Owes F T A values limit handing_out (λ n. n) (TookOutput i) ds us l
   hands_out i ds us l has m f number x lt = let none = future_gone m.limit m.word m.slots m.trace (census m.parties) f.invariant.holds (counted (λ c. c.claims) (λ a b. refl) m.parties f.number (TookOutput i) f.stands) in by_table m refl x (refl, refl)
-      (gives_work Empty refl refl refl (inr refl) has (lies_nowhere F T (record (m.slots) { output = false }) none refl))
+      (gives_work Empty refl refl refl (inr refl) has (lies_nowhere F T values (record (m.slots) { output = false }) none refl))
 
-  pub finds_notifier : (i : ℕ) (ds : List Deed) (us : List Member) (l : List (ℕ × TaskPlace F T A)) → OwesEnd F T A limit to_begin_register (Registrar i) ds us l
+  pub finds_notifier : (i : ℕ) (ds : List Deed) (us : List Member) (l : List (ℕ × TaskPlace F T A)) → OwesEnd F T A values limit to_begin_register (Registrar i) ds us l
   finds_notifier i ds us l m f number x lt e = computed m (row_fits e) x refl
 
   -- where the clone was put in, by what stood there
@@ -146,26 +147,26 @@ module _ (F T A : Type 0) (limit : ℕ) where
   stored_awaits i None y h = h
   stored_awaits i (Some old) y h = h
 
-  pub begins_register : (i : ℕ) (ds : List Deed) (us : List Member) (l : List (ℕ × TaskPlace F T A)) → OwesChange F T A limit to_begin_register (Registrar i) ds us l
+  pub begins_register : (i : ℕ) (ds : List Deed) (us : List Member) (l : List (ℕ × TaskPlace F T A)) → OwesChange F T A values limit to_begin_register (Registrar i) ds us l
   begins_register i ds us l m f fit = let s = stored_free i m.slots.awaiter in by_table m (row_fits fit) refl (refl, refl) (takes_awaiter refl s.1 s.0 (inr (refl, refl)) (stored_awaits i m.slots.awaiter))
 
-  pub ends_register : (i : ℕ) (ds : List Deed) (us : List Member) (a : A) (l : List (ℕ × TaskPlace F T A)) → l ≡ awaiter_first (Some a) (rest l) → OwesChange F T A limit to_end_register (Registered i) ds us l
+  pub ends_register : (i : ℕ) (ds : List Deed) (us : List Member) (a : A) (l : List (ℕ × TaskPlace F T A)) → l ≡ awaiter_first (Some a) (rest l) → OwesChange F T A values limit to_end_register (Registered i) ds us l
   ends_register i ds us a l has m f fit = let stored = clone_stored i m.word m.slots m.trace (awaiting i m.parties) (f.invariant.shakes i) (counted_awaiting (λ b. b.registered) (λ a b. refl) i m.parties f.number (Registered i) f.stands) in by_table m (row_fits fit) refl (refl, refl)
       (gives_awaiter (Some a) refl refl refl (inr (refl, refl)) has (subst (λ (hand : Option ℕ). Waits hand (Some a)) (sym stored) tt))
 
   -- the clone is taken back while its place is still the poll's
-  pub takes_back : (i : ℕ) (ds : List Deed) (us : List Member) (l : List (ℕ × TaskPlace F T A)) → OwesEnd F T A limit to_end_register (Registered i) ds us l
+  pub takes_back : (i : ℕ) (ds : List Deed) (us : List Member) (l : List (ℕ × TaskPlace F T A)) → OwesEnd F T A values limit to_end_register (Registered i) ds us l
   takes_back i ds us l m f number x lt e = by_table m (guarded e) x (refl, refl) (stays refl refl (inr (refl, refl)) (inl refl))
 
-  pub ends_notified : (i : ℕ) (ds : List Deed) (us : List Member) (l : List (ℕ × TaskPlace F T A)) → l ≡ awaiter_first None (rest l) → Owes F T A limit ending_notified (λ n. bit_and n 18446744073709551391) (TookBack i) ds us l
+  pub ends_notified : (i : ℕ) (ds : List Deed) (us : List Member) (l : List (ℕ × TaskPlace F T A)) → l ≡ awaiter_first None (rest l) → Owes F T A values limit ending_notified (λ n. bit_and n 18446744073709551391) (TookBack i) ds us l
   ends_notified i ds us l has m f n e lt = let t = was_taken_back i m.word m.slots m.trace (awaiting i m.parties) (f.invariant.shakes i) (counted_awaiting (λ b. b.takers_back) (λ a b. refl) i m.parties f.number (TookBack i) f.stands) in by_table m (row_fits t.0) (fetch_and-awaiter_registering_notifying n lt ∙ ap (λ (w : State). number_of (record w { awaiter = false; registering = false; notifying = false })) (ap state_of e ∙ state_of_number_of m.word)) (refl, refl)
       (gives_awaiter None refl refl refl (inr (refl, refl)) has (subst (λ (hand : Option ℕ). Waits {A = A} hand None) (sym t.1) tt))
 
   -- the output is taken at once, or by a poll that has registered
-  pub claims : (n : ℕ) (ds : List Deed) (us : List Member) (l : List (ℕ × TaskPlace F T A)) → OwesChange F T A limit to_look (At (Task n)) ds us l
+  pub claims : (n : ℕ) (ds : List Deed) (us : List Member) (l : List (ℕ × TaskPlace F T A)) → OwesChange F T A values limit to_look (At (Task n)) ds us l
   claims n ds us l m f fit = claims_by m (At (Task n)) (ClaimOutput ∷ []) (n + 1) (Closes ∷ TaskPollBegins (n + 1) ∷ []) l (refl, refl) fit refl (output_lies m f.invariant fit)
 
-  pub claims_again : (i : ℕ) (ds : List Deed) (us : List Member) (l : List (ℕ × TaskPlace F T A)) → OwesChange F T A limit to_look_again (Looking i) ds us l
+  pub claims_again : (i : ℕ) (ds : List Deed) (us : List Member) (l : List (ℕ × TaskPlace F T A)) → OwesChange F T A values limit to_look_again (Looking i) ds us l
   claims_again i ds us l m f fit = claims_by m (Looking i) (Look ∷ ClaimOutput ∷ []) i (Closes ∷ []) l (refl, refl) fit
       (ap (λ (p : Position). and_then (Some (leaves_slots (scene m) m.word p [] [])) (λ o. leads (spot m.limit o.word o.slots) (ClaimOutput ∷ []) o.next)) (sees_output m.word i fit)
       ∙ again (found 0 ClaimOutput m.word))

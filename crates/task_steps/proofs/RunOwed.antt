@@ -7,6 +7,7 @@ use Rattle.task_steps.proofs.Vocabulary.{State, state_of, number_of, Event, Comp
 use Rattle.task_steps.proofs.Vocabulary.{At, GivingUp, Emptier, Polling, Pending, ReadyFutureDropped, PendingFutureDropped, OutputInHand, GiveUpReference, GiveUpLastReference, DiscardOpen, DiscardClosed}
 use Rattle.task_steps.proofs.Vocabulary.{DropFuture, StoreOutput, Complete, CompleteDetached, AnswerPending, Act, written, Slots, notifies, after_giving_up}
 use Rattle.task_steps.proofs.Vocabulary.{owns_awaiter, Census, census, Holds, state_of_number_of, fetch_or-closed, fetch_sub-reference, fetch_and-scheduled_running, Slot, TaskPlace, Empty, Deed, Member}
+use Rattle.task_steps.specs.Values.{Values}
 use Rattle.task_steps.specs.Rule.{has_work, IsFuture, IsOutput, Lies}
 use Rattle.task_steps.specs.Steps.{work_first, awaiter_first}
 use Rattle.task_steps.specs.Scripts.{dropping_output}
@@ -70,8 +71,8 @@ three c s d e f g = grind arith
 four : (c s r t : Bool) → c ≡ false → s ≡ false → (r && not t) ≡ true → (not c && not s && (r && not t)) ≡ true
 four c s r t e f g = grind arith
 
-module _ (F T A : Type 0) (limit : ℕ) where
-  pub gives_up : (hand : Option ℕ) (answer : Answer) (ds : List Deed) (us : List Member) (l : List (ℕ × TaskPlace F T A)) → Owes F T A limit giving_up (λ n. (n + (2 ^ 64 - 256)) % 2 ^ 64) (GivingUp hand answer) ds us l
+module _ (F T A : Type 0) (values : Values F T) (limit : ℕ) where
+  pub gives_up : (hand : Option ℕ) (answer : Answer) (ds : List Deed) (us : List Member) (l : List (ℕ × TaskPlace F T A)) → Owes F T A values limit giving_up (λ n. (n + (2 ^ 64 - 256)) % 2 ^ 64) (GivingUp hand answer) ds us l
   gives_up hand answer ds us l m f x e lt = by (nat_lt 1 m.word.references || m.word.task) refl
     where
       here : 1 ≤ (census m.parties).finishing
@@ -86,16 +87,16 @@ module _ (F T A : Type 0) (limit : ℕ) where
       fewer : (x + (2 ^ 64 - 256)) % 2 ^ 64 ≡ number_of (record (m.word) { references = m.word.references - 1 })
       fewer = fetch_sub-reference x lt (subst (λ (w : State). 1 ≤ w.references) (sym is) some) ∙ ap (λ (w : State). number_of (record w { references = w.references - 1 })) is
 
-      by : (b : Bool) → (nat_lt 1 m.word.references || m.word.task) ≡ b → Steps m (GivingUp hand answer) (if b then GiveUpReference ∷ [] else GiveUpLastReference ∷ []) ((x + (2 ^ 64 - 256)) % 2 ^ 64) l
+      by : (b : Bool) → (nat_lt 1 m.word.references || m.word.task) ≡ b → Steps values m (GivingUp hand answer) (if b then GiveUpReference ∷ [] else GiveUpLastReference ∷ []) ((x + (2 ^ 64 - 256)) % 2 ^ 64) l
       by true h = by_table m {acts = GiveUpReference ∷ []} (row_fits h) fewer (refl, refl) (stays (given_work hand answer) (given_free hand answer) (inr (refl, refl)) (inr refl))
       by false h = by_table m {acts = GiveUpLastReference ∷ []} (row_fits (is_last m.word.references m.word.task some h)) fewer (refl, refl)
           (takes_awaiter refl refl refl (inr (refl, refl)) (λ y w. (m.slots.awaiter, w)))
 
-  pub empties : (hand : Option ℕ) (answer : Answer) (ds : List Deed) (us : List Member) (l : List (ℕ × TaskPlace F T A)) → l ≡ awaiter_first None (rest l) → Owes F T A limit emptying (λ n. n) (Emptier hand answer) ds us l
+  pub empties : (hand : Option ℕ) (answer : Answer) (ds : List Deed) (us : List Member) (l : List (ℕ × TaskPlace F T A)) → l ≡ awaiter_first None (rest l) → Owes F T A values limit emptying (λ n. n) (Emptier hand answer) ds us l
   empties hand answer ds us l has m f x e lt = by_table m refl e (refl, refl)
       (gives_awaiter None refl (given_free hand answer) (given_work hand answer) (inr (refl, refl)) has tt)
 
-  pub discards : (ds : List Deed) (us : List Member) (l : List (ℕ × TaskPlace F T A)) → Owes F T A limit discarding (λ n. bit_or n 8) (At Runnable) ds us l
+  pub discards : (ds : List Deed) (us : List Member) (l : List (ℕ × TaskPlace F T A)) → Owes F T A values limit discarding (λ n. bit_or n 8) (At Runnable) ds us l
   discards ds us l m f x e lt = by m.word.closed refl
     where
       there : Queued m
@@ -104,41 +105,41 @@ module _ (F T A : Type 0) (limit : ℕ) where
       sets : bit_or x 8 ≡ number_of (record (m.word) { closed = true })
       sets = fetch_or-closed x ∙ ap (λ (w : State). number_of (record w { closed = true })) (ap state_of e ∙ state_of_number_of m.word)
 
-      by : (b : Bool) → m.word.closed ≡ b → Steps m (At Runnable) (if b then DiscardClosed ∷ DropFuture ∷ [] else DiscardOpen ∷ DropFuture ∷ []) (bit_or x 8) l
+      by : (b : Bool) → m.word.closed ≡ b → Steps values m (At Runnable) (if b then DiscardClosed ∷ DropFuture ∷ [] else DiscardOpen ∷ DropFuture ∷ []) (bit_or x 8) l
       by true h = by_table m (row_fits h) (sets ∙ ap number_of (closed_already m.word h)) (refl, refl)
           (takes_future refl refl refl (inr refl) there.future (λ _ h. h))
       by false h = by_table m (row_fits (ap not h)) sets (refl, refl) (takes_future refl refl refl (inr refl) there.future (λ _ h. h))
 
-  pub answers_ready : (ds : List Deed) (us : List Member) (l : List (ℕ × TaskPlace F T A)) → Owes F T A limit answering_ready (λ n. n) Polling ds us l
+  pub answers_ready : (ds : List Deed) (us : List Member) (l : List (ℕ × TaskPlace F T A)) → Owes F T A values limit answering_ready (λ n. n) Polling ds us l
   answers_ready ds us l m f x e lt = by_table m refl e (refl, refl) (stays refl refl (inl refl) (inr refl))
 
-  pub answers_pending : (ds : List Deed) (us : List Member) (l : List (ℕ × TaskPlace F T A)) → Owes F T A limit answering_pending (λ n. n) Polling ds us l
+  pub answers_pending : (ds : List Deed) (us : List Member) (l : List (ℕ × TaskPlace F T A)) → Owes F T A values limit answering_pending (λ n. n) Polling ds us l
   answers_pending ds us l m f x e lt = by m.word.closed refl
     where
-      by : (b : Bool) → m.word.closed ≡ b → Steps m Polling (if b then AnswerPending ∷ DropFuture ∷ [] else AnswerPending ∷ []) x l
+      by : (b : Bool) → m.word.closed ≡ b → Steps values m Polling (if b then AnswerPending ∷ DropFuture ∷ [] else AnswerPending ∷ []) x l
       by true h = by_table m (guarded h) e (refl, refl) (stays refl refl (inl refl) (inr refl))
       by false h = by_table m refl e (refl, refl) (stays refl refl (inl refl) (inr refl))
 
   -- the task was closed meanwhile, and its future is dropped next
-  pub finds_closed : (ds : List Deed) (us : List Member) (l : List (ℕ × TaskPlace F T A)) → OwesEnd F T A limit to_end_pending Pending ds us l
+  pub finds_closed : (ds : List Deed) (us : List Member) (l : List (ℕ × TaskPlace F T A)) → OwesEnd F T A values limit to_end_pending Pending ds us l
   finds_closed ds us l m f x e lt h = by_table m (guarded h) e (refl, refl) (stays refl refl (inl refl) (inr refl))
 
-  pub ends_closed : (ds : List Deed) (us : List Member) (l : List (ℕ × TaskPlace F T A)) → l ≡ work_first Empty (rest l) → Owes F T A limit ending_closed (λ n. bit_and n 18446744073709551612) PendingFutureDropped ds us l
+  pub ends_closed : (ds : List Deed) (us : List Member) (l : List (ℕ × TaskPlace F T A)) → l ≡ work_first Empty (rest l) → Owes F T A values limit ending_closed (λ n. bit_and n 18446744073709551612) PendingFutureDropped ds us l
   ends_closed ds us l has m f x e lt = by_table m (row_fits gone.2) (fetch_and-scheduled_running x lt ∙ ap (λ (w : State). number_of (record w { scheduled = false; running = false })) (ap state_of e ∙ state_of_number_of m.word)) (refl, refl)
-      (gives_work Empty refl (due_work m.word.awaiter) (due_free m.word.awaiter) (inr refl) has (lies_nowhere F T m.slots gone.0 gone.1))
+      (gives_work Empty refl (due_work m.word.awaiter) (due_free m.word.awaiter) (inr refl) has (lies_nowhere F T values m.slots gone.0 gone.1))
     where
       gone : (m.slots.future ≡ false) × (m.slots.output ≡ false) × (m.word.closed ≡ true)
       gone = cleared_facts m.limit m.word m.slots m.trace (census m.parties) f.invariant.holds (counted (λ c. c.cleared) (λ a b. refl) m.parties f.number PendingFutureDropped f.stands)
 
-  pub drops_output : (due : Bool) (ds : List Deed) (us : List Member) (l : List (ℕ × TaskPlace F T A)) → l ≡ work_first Empty (rest l) → Owes F T A limit dropping_output (λ n. n) (OutputInHand due) ds us l
+  pub drops_output : (due : Bool) (ds : List Deed) (us : List Member) (l : List (ℕ × TaskPlace F T A)) → l ≡ work_first Empty (rest l) → Owes F T A values limit dropping_output (λ n. n) (OutputInHand due) ds us l
   drops_output due ds us l has m f x e lt = by_table m refl e (refl, refl)
-      (gives_work Empty refl (due_work due) (due_free due) (inr refl) has (lies_nowhere F T (record (m.slots) { output = false }) gone refl))
+      (gives_work Empty refl (due_work due) (due_free due) (inr refl) has (lies_nowhere F T values (record (m.slots) { output = false }) gone refl))
     where
       gone : m.slots.future ≡ false
       gone = output_facts m.limit m.word m.slots m.trace (census m.parties) f.invariant.holds (counted (λ c. c.outputs) (λ a b. refl) m.parties f.number (OutputInHand due) f.stands)
 
   -- the run of a Ready future, which was dropped
-  pub completes : (ds : List Deed) (us : List Member) (y : Slot F T) (l : List (ℕ × TaskPlace F T A)) → l ≡ work_first y (rest l) → IsOutput y → OwesChange F T A limit to_complete ReadyFutureDropped ds us l
+  pub completes : (ds : List Deed) (us : List Member) (y : Slot F T) (l : List (ℕ × TaskPlace F T A)) → l ≡ work_first y (rest l) → IsOutput values y → OwesChange F T A values limit to_complete ReadyFutureDropped ds us l
   completes ds us y l has is m f any = by m.word.task refl
     where
       gone : m.slots.future ≡ false
@@ -147,19 +148,19 @@ module _ (F T A : Type 0) (limit : ℕ) where
       stored : Slots
       stored = record (m.slots) { output = true }
 
-      lies : Lies {F = F} {T = T} stored.future stored.output y
-      lies = subst (λ (b : Bool). Lies b true y) (sym gone) is
+      lies : Lies values stored.future stored.output y
+      lies = subst (λ (b : Bool). Lies values b true y) (sym gone) is
 
-      placed : (b a : Bool) (v : State) (told : List Event) → Placing m ReadyFutureDropped (record { word = v; slots = stored; next = if b then OutputInHand a else notifies a OfRun; born = []; told = told }) l
+      placed : (b a : Bool) (v : State) (told : List Event) → Placing values m ReadyFutureDropped (record { word = v; slots = stored; next = if b then OutputInHand a else notifies a OfRun; born = []; told = told }) l
       placed true a v told = stays refl refl (inl refl) (inr refl)
       placed false a v told = gives_work y refl (due_work a) (due_free a) (inr refl) has lies
 
-      by : (b : Bool) → m.word.task ≡ b → let acts : List Act = if b then StoreOutput ∷ Complete ∷ [] else StoreOutput ∷ CompleteDetached ∷ [] in Steps m ReadyFutureDropped acts (number_of (word_after m.word acts)) l
+      by : (b : Bool) → m.word.task ≡ b → let acts : List Act = if b then StoreOutput ∷ Complete ∷ [] else StoreOutput ∷ CompleteDetached ∷ [] in Steps values m ReadyFutureDropped acts (number_of (word_after m.word acts)) l
       by true h = by_table m (row_fits h) refl (refl, refl) (placed m.word.closed m.word.awaiter (written Complete m.word) (Completes ∷ RunEnded ∷ []))
       by false h = by_table m (row_fits (ap not h)) refl (refl, refl) (stays refl refl (inl refl) (inr refl))
 
   -- the run of a Pending future, on an open task
-  pub ends_pending : (ds : List Deed) (us : List Member) (y : Slot F T) (l : List (ℕ × TaskPlace F T A)) → l ≡ work_first y (rest l) → IsFuture y → OwesChange F T A limit to_end_pending Pending ds us l
+  pub ends_pending : (ds : List Deed) (us : List Member) (y : Slot F T) (l : List (ℕ × TaskPlace F T A)) → l ≡ work_first y (rest l) → IsFuture values y → OwesChange F T A values limit to_end_pending Pending ds us l
   ends_pending ds us y l has is m f applied = by m.word.scheduled (nat_lt 1 m.word.references || m.word.task) refl refl
     where
       facts : (1 ≤ m.word.references) × (m.slots.future ≡ true)
@@ -172,10 +173,10 @@ module _ (F T A : Type 0) (limit : ℕ) where
       shared = nat_lt 1 m.word.references || m.word.task
 
       by : (b d : Bool) → m.word.scheduled ≡ b → shared ≡ d
-          → let acts : List Act = ending_pending (if b then Rescheduled else (if d then Idle else Orphaned)) in Steps m Pending acts (number_of (word_after m.word acts)) l
+          → let acts : List Act = ending_pending (if b then Rescheduled else (if d then Idle else Orphaned)) in Steps values m Pending acts (number_of (word_after m.word acts)) l
       by true d h k = by_table m (row_fits (both (ap not not_closed) h)) refl (refl, refl)
-          (gives_work y refl refl refl (inr refl) has (future_lies m.slots y facts.1 is))
+          (gives_work y refl refl refl (inr refl) has (future_lies values m.slots y facts.1 is))
       by false true h k = by_table m (row_fits (three m.word.closed m.word.scheduled shared not_closed h k)) refl (refl, refl)
-          (gives_work y refl refl refl (inr refl) has (future_lies m.slots y facts.1 is))
+          (gives_work y refl refl refl (inr refl) has (future_lies values m.slots y facts.1 is))
       by false false h k = by_table m (row_fits (four m.word.closed m.word.scheduled (nat_eq m.word.references 1) m.word.task not_closed h (is_last m.word.references m.word.task facts.0 k))) refl (refl, refl)
-          (gives_work y refl refl refl (inr refl) has (future_lies m.slots y facts.1 is))
+          (gives_work y refl refl refl (inr refl) has (future_lies values m.slots y facts.1 is))

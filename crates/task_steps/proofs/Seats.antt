@@ -6,15 +6,16 @@ use lib.ListN.{get_elem?}
 use Rattle.atomic_table.specs.Table.{State as Board, Splits}
 use Rattle.atomic_table.proofs.Lists.{at_set, set_here, set_else, set_again, at_longer}
 use Rattle.task_steps.proofs.Vocabulary.{number_of, Event, HandedOver, Position, OnceDelivered, At, Deliverer, CallEnding, Runnable, Ended, HandOver, ThenEnds, ThenTask, ThenNotifies, Nothing, Outcome, leaves_slots, after_handing_over, Machine, scene, owns_awaiter, laws_of, TaskPlace, Deed, Member}
-use Rattle.task_steps.proofs.Vocabulary.{Spawned, View}
-use Rattle.task_steps.specs.Rule.{deed, member, view, fresh, opening_at, Entry, Explains, has_work, HomesAgree, Running, RuleHolds}
+use Rattle.task_steps.proofs.Vocabulary.{View}
+use Rattle.task_steps.specs.Values.{Values}
+use Rattle.task_steps.specs.Rule.{deed, member, view, fresh, Entry, Explains, has_work, HomesAgree, Running, RuleHolds}
 use Rattle.task_steps.specs.Standing.{hands_over, handed_over}
 use Rattle.task_steps.specs.Seats.{handing_over, runnable_of}
 use Rattle.task_steps.proofs.Explains.{inside, at_append, regroups}
 use Rattle.task_steps.proofs.Facts.{law, many_at, one_work}
 use Rattle.task_steps.proofs.Acts.{follows, leads}
 use Rattle.task_steps.proofs.Advance.{After as Afterwards, same_work, same_awaiter}
-use Rattle.task_steps.proofs.Allowed.{finds, not_first, set_apart, still_unfilled}
+use Rattle.task_steps.proofs.Allowed.{finds}
 
 -- a party gets a seat of its own
 abbrev moved : (id q new s j : ℕ) → Dec (s ≡ id) → Dec (j ≡ q) → ℕ × ℕ
@@ -65,43 +66,28 @@ pub just : {X : Type 0} (v : X) (n : ℕ) (w : X) → get_elem? (v ∷ []) n ≡
 just v zero w e = (refl, some-injective v w e)
 just v (suc n) w e = absurd (some-ne-none w (sym e))
 
-module _ (F T A : Type 0) (limit : ℕ) where
+module _ (F T A : Type 0) (values : Values F T) (limit : ℕ) where
   abbrev B : Type 0
   B = Board (TaskPlace F T A) View
 
   abbrev Rule : B → Type 0
-  Rule = RuleHolds {F = F} {T = T} {A = A} limit
+  Rule = RuleHolds {A = A} values limit
 
-  -- the rule once the views tell of this machine, where the opening seat of a task that was not spawned stays
-  pub retold : (s : B) (c : limit < 36028797018963968) (r : Running {F = F} {T = T} {A = A} limit s) (views : List View) (log : List Entry) (m : Machine) → Explains limit views log m → m.word ≡ r.machine.word → m.limit ≡ limit → HomesAgree r.filled m s.homes
-      → (r.filled ≡ false → get_elem? views 0 ≡ get_elem? s.views 0) → ((j : ℕ) (v : View) → (r.filled ≡ false → j ≢ 0) → get_elem? views j ≡ some v → v.stage ≡ Spawned) → Rule record { words = s.words; homes = s.homes; views = views }
-  retold s c r views log m t is limited housed first staged = record {
+  -- the rule once the views tell of this machine
+  pub retold : (s : B) (c : limit < 36028797018963968) (r : Running {A = A} values limit s) (views : List View) (log : List Entry) (m : Machine) → Explains limit views log m → m.word ≡ r.machine.word → m.limit ≡ limit → HomesAgree values m s.homes
+      → Rule record { words = s.words; homes = s.homes; views = views }
+  retold s c r views log m t is limited housed = record {
     capped = c;
     running = record {
       log = log;
       machine = m;
-      filled = r.filled;
       limited = limited;
       told = t;
       wide = r.wide;
       word_is = r.word_is ∙ ap number_of (sym is);
       housed = housed;
-      unfilled = still_unfilled F T A limit s r s.words s.homes views first (λ _. refl);
-      staged = staged;
     };
   }
-
-  -- a seat that is changed and one that is added
-  pub staged_more : (s : B) (r : Running {F = F} {T = T} {A = A} limit s) (id : ℕ) (v w : View) → v.stage ≡ Spawned → w.stage ≡ Spawned → (j : ℕ) (x : View) → (r.filled ≡ false → j ≢ 0) → get_elem? (set s.views id v ++ w ∷ []) j ≡ some x → x.stage ≡ Spawned
-  staged_more s r id v w a b j x ne e = ⊎_elim
-      (λ (h : get_elem? (set s.views id v) j ≡ some x). ⊎_elim (λ (z : (j ≡ id) × (v ≡ x)). ap (λ (u : View). u.stage) (sym z.1) ∙ a) (λ (z : (j ≢ id) × (get_elem? s.views j ≡ some x)). r.staged j x ne z.1) (at_set s.views id j v x h))
-      (λ (h : (n : ℕ) × (j ≡ length (set s.views id v) + n) × (get_elem? (w ∷ []) n ≡ some x)). ap (λ (u : View). u.stage) (sym (just w h.0 x h.2).1) ∙ b)
-      (at_append (set s.views id v) (w ∷ []) j x e)
-
-  -- .. and the opening seat is the same as before
-  pub first_more : (s : B) (r : Running {F = F} {T = T} {A = A} limit s) (id : ℕ) (u v w : View) (l : ℕ) (ms : List Member) → get_elem? s.views id ≡ some u → u ≡ view l ms → r.filled ≡ false → get_elem? (set s.views id v ++ w ∷ []) 0 ≡ get_elem? s.views 0
-  first_more s r id u v w l ms at is early = let first = (r.unfilled early).first in let ne = not_first F T A limit s r id u l ms at is early in
-      at_longer (set s.views id v) (w ∷ []) 0 (opening_at (r.unfilled early).stage limit) (set_apart F T A limit s.views id v ne ∙ first) ∙ sym first
 
   no_work_after : (next : OnceDelivered) → has_work (after_handing_over next) ≡ false
   no_work_after (ThenEnds answer) = refl
@@ -123,9 +109,9 @@ module _ (F T A : Type 0) (limit : ℕ) where
       let t0 = subst (λ vs. Explains limit vs run.log m) (sym (ap (λ z. set s.views id z) (sym is) ∙ set_again s.views id v at)) run.told in
       let o : Outcome = leaves_slots (scene m) m.word q (At Runnable ∷ []) told in
       let f = follows limit s.views id l (HandOver ∷ []) p ds [] run.log m o t0 lt (allows m) in
-      let k = finds F T A limit s r.capped run id v l p ds [] at is in
+      let k = finds F T A values limit s r.capped run id v l p ds [] at is in
       let i = law limit f.log f.machine f.told.reaches in
-      let a : Afterwards F T A limit m p o f.machine = record {
+      let a : Afterwards F T A values limit m p o f.machine = record {
         works = (let e = f.counts has_work in omega arith);
         owners = (let e = f.counts owns_awaiter in omega arith);
         here = many_at has_work m.parties k.number p k.stands;
@@ -137,14 +123,14 @@ module _ (F T A : Type 0) (limit : ℕ) where
       } in
       let u : Member = member q (deed HandOver None ∷ ds) in let n : Member = fresh (At Runnable) in
       let t1 = leaves limit s.views id l f.log f.machine (u ∷ n ∷ []) (u ∷ []) n 1 f.told lt refl (only u n) in
-      let housed : HomesAgree run.filled f.machine s.homes = record {
-        work = same_work F T A limit run.filled m p o f.machine s.homes s.homes a run.housed (w1 ∙ sym w0) (inr (refl, refl)) refl;
-        awaiter = same_awaiter F T A limit run.filled m p o f.machine s.homes s.homes a run.housed (a1 ∙ sym a0) (inr refl) refl;
+      let housed : HomesAgree values f.machine s.homes = record {
+        work = same_work F T A values limit m p o f.machine s.homes s.homes a run.housed (w1 ∙ sym w0) (inr (refl, refl)) refl;
+        awaiter = same_awaiter F T A values limit m p o f.machine s.homes s.homes a run.housed (a1 ∙ sym a0) (inr refl) refl;
       } in
       let views : set s.views id (view l (u ∷ [])) ++ view l (n ∷ []) ∷ [] ≡ set s.views id (handing_over v) ++ runnable_of v ∷ [] =
       (λ j. set s.views id ((ap (λ z. view l (member z (deed HandOver None ∷ ds) ∷ [])) (sym there) ∙ ap handing_over (sym is)) j) ++ (ap runnable_of (sym is)) j ∷ []) in
       subst (λ vs. Rule record { words = s.words; homes = s.homes; views = vs }) views
-      (retold s r.capped run (set s.views id (view l (u ∷ [])) ++ view l (n ∷ []) ∷ []) f.log f.machine t1 f.word_is (f.limit_is ∙ run.limited) housed (first_more s run id v (view l (u ∷ [])) (view l (n ∷ [])) l (member p ds ∷ []) at is) (staged_more s run id (view l (u ∷ [])) (view l (n ∷ [])) refl refl))
+      (retold s r.capped run (set s.views id (view l (u ∷ [])) ++ view l (n ∷ []) ∷ []) f.log f.machine t1 f.word_is (f.limit_is ∙ run.limited) housed)
     where
       only : (u n : Member) (j : ℕ) (x : Member) → get_elem? (u ∷ []) j ≡ some x → (get_elem? (u ∷ n ∷ []) j ≡ some x) × (j ≢ 1)
       only u n zero x e = (e, λ z. omega arith)

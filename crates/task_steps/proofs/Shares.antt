@@ -10,6 +10,7 @@ use Rattle.atomic_table.specs.Table.{State as Board}
 use Rattle.counted_block.specs.Blocks.{word_of}
 use Rattle.counted_block.specs.Counts.{Same, Less, Last}
 use Rattle.task_steps.proofs.Vocabulary.{State, state_of, number_of, state_of_number_of, Position, Act, Machine, scene, TaskPlace, Deed, Member, View}
+use Rattle.task_steps.specs.Values.{Values}
 use Rattle.task_steps.specs.Rule.{view, trying, member, Running, RuleHolds}
 use Rattle.task_steps.specs.Shares.{handles, at_least_one, shares_out, has_emptied, MayBring, MayGive}
 use Rattle.task_steps.proofs.Facts.{low, law, bit_le}
@@ -55,17 +56,17 @@ ExchangeBrings n new c b = (b && c ≡ false) × (shares_out (either b new n) �
 abbrev ExchangeGives : ℕ → ℕ → Bool → Bool → Type 0
 ExchangeGives n new c b = (b && c ≡ false) × (shares_out (either b new n) ≡ shares_out n) ⊎ (b && c ≡ true) × (shares_out (either b new n) + 1 ≡ shares_out n) × (0 < shares_out (either b new n))
 
-module _ (F T A : Type 0) (limit : ℕ) where
+module _ (F T A : Type 0) (values : Values F T) (limit : ℕ) where
   abbrev B : Type 0
   B = Board (TaskPlace F T A) View
 
   abbrev Rule : B → Type 0
-  Rule = RuleHolds {F = F} {T = T} {A = A} limit
+  Rule = RuleHolds {A = A} values limit
 
-  shares_after : (m : Machine) (p : Position) (acts : List Act) (new : ℕ) (l : List (ℕ × TaskPlace F T A)) → Steps m p acts new l → shares_out new ≡ shares_of (word_after m.word acts)
+  shares_after : (m : Machine) (p : Position) (acts : List Act) (new : ℕ) (l : List (ℕ × TaskPlace F T A)) → Steps values m p acts new l → shares_out new ≡ shares_of (word_after m.word acts)
   shares_after m p acts new l x = ap shares_out x.writes ∙ ap shares_of (state_of_number_of x.outcome.word ∙ leads_word (scene m) acts p x.outcome x.leads_to)
 
-  shares_now : (s : B) (r : Running {F = F} {T = T} {A = A} limit s) → shares_out (word_of s) ≡ shares_of r.machine.word
+  shares_now : (s : B) (r : Running {A = A} values limit s) → shares_out (word_of s) ≡ shares_of r.machine.word
   shares_now s r = ap shares_out r.word_is ∙ ap shares_of (state_of_number_of r.machine.word)
 
   few : (s : B) (c : Rule s) → c.running.machine.word.references < 36028797018963969
@@ -79,15 +80,15 @@ module _ (F T A : Type 0) (limit : ℕ) where
       let n : handles w < 36028797018963971 = omega arith in omega (arith, one_more_at_most (handles w) 36028797018963971 n (omega arith))
 
   -- a step that keeps its acts' words, whatever they are, keeps the number
-  pub keeps_shares : (id : ℕ) (v : View) (l : ℕ) (p : Position) (ds : List Deed) (us : List Member) (held : List (ℕ × TaskPlace F T A)) (acts : State → List Act) (write : ℕ → ℕ) → v ≡ view l (member p ds ∷ us) → Owes F T A limit acts write p ds us held
+  pub keeps_shares : (id : ℕ) (v : View) (l : ℕ) (p : Position) (ds : List Deed) (us : List Member) (held : List (ℕ × TaskPlace F T A)) (acts : State → List Act) (write : ℕ → ℕ) → v ≡ view l (member p ds ∷ us) → Owes F T A values limit acts write p ds us held
       → ((m : Machine) → Finds limit p ds us m → shares_of (word_after m.word (acts m.word)) ≡ shares_of m.word) → Same Rule shares_out id v write
-  keeps_shares id v l p ds us held acts write is owes same s c at = let run = c.running in let m : Machine = run.machine in let f = finds_trying F T A limit s c.capped run id v l p ds None us at is in
+  keeps_shares id v l p ds us held acts write is owes same s c at = let run = c.running in let m : Machine = run.machine in let f = finds_trying F T A values limit s c.capped run id v l p ds None us at is in
       shares_after m p (acts m.word) (write (word_of s)) held (owes m f (word_of s) run.word_is (fits s c)) ∙ (same m f ∙ sym (shares_now s run))
 
   -- .. and one that may give a share up
-  pub parts_shares : (id : ℕ) (v : View) (l : ℕ) (p : Position) (ds : List Deed) (us : List Member) (held : List (ℕ × TaskPlace F T A)) (acts : State → List Act) (write : ℕ → ℕ) (gives : State → Bool) → v ≡ view l (member p ds ∷ us) → Owes F T A limit acts write p ds us held
+  pub parts_shares : (id : ℕ) (v : View) (l : ℕ) (p : Position) (ds : List Deed) (us : List Member) (held : List (ℕ × TaskPlace F T A)) (acts : State → List Act) (write : ℕ → ℕ) (gives : State → Bool) → v ≡ view l (member p ds ∷ us) → Owes F T A values limit acts write p ds us held
       → ((m : Machine) → Finds limit p ds us m → Gives (gives m.word) (shares_of m.word) (shares_of (word_after m.word (acts m.word)))) → Less Rule shares_out id v write (λ n. gives (state_of n))
-  parts_shares id v l p ds us held acts write gives is owes moves s c at = let run = c.running in let m : Machine = run.machine in let f = finds_trying F T A limit s c.capped run id v l p ds None us at is in
+  parts_shares id v l p ds us held acts write gives is owes moves s c at = let run = c.running in let m : Machine = run.machine in let f = finds_trying F T A values limit s c.capped run id v l p ds None us at is in
       let before = shares_now s run in let after = shares_after m p (acts m.word) (write (word_of s)) held (owes m f (word_of s) run.word_is (fits s c)) in
       let word : m.word ≡ state_of (word_of s) = sym (ap state_of run.word_is ∙ state_of_number_of m.word) in
       ⊎_elim (λ (z : (gives m.word ≡ false) × (shares_of (word_after m.word (acts m.word)) ≡ shares_of m.word)). inl (ap gives (sym word) ∙ z.0, after ∙ (z.1 ∙ sym before)))
@@ -102,21 +103,21 @@ module _ (F T A : Type 0) (limit : ℕ) where
   exchange : (P : Bool → Type 0) (n old : ℕ) → (n ≡ old → P true) → P false → P (eqb n old)
   exchange P n old hit miss = dite (ℕ_discrete n old) (λ e. subst P (sym (eq-eqb n old e)) (hit e)) (λ ne. subst P (sym (ne_eqb n old ne)) miss)
 
-  pub may_bring : {Row : Type 0} (id l : ℕ) (p : Position) (ds : List Deed) (us : List Member) (held : List (ℕ × TaskPlace F T A)) (a : Attempt Row) → OwesChange F T A limit a p ds us held → Moves Brings a p ds us → MayBring limit id (view l (member p ds ∷ us), held) a
-  may_bring id l p ds us held a changes moves t w applied names s c at = let v = word_after w (acts_on a w) in let run = c.running in let m : Machine = run.machine in let f = finds_trying F T A limit s c.capped run id (view l (trying p ds t ∷ us)) l p ds t us at refl in
+  pub may_bring : {Row : Type 0} (id l : ℕ) (p : Position) (ds : List Deed) (us : List Member) (held : List (ℕ × TaskPlace F T A)) (a : Attempt Row) → OwesChange F T A values limit a p ds us held → Moves Brings a p ds us → MayBring values limit id (view l (member p ds ∷ us), held) a
+  may_bring id l p ds us held a changes moves t w applied names s c at = let v = word_after w (acts_on a w) in let run = c.running in let m : Machine = run.machine in let f = finds_trying F T A values limit s c.capped run id (view l (trying p ds t ∷ us)) l p ds t us at refl in
       exchange (ExchangeBrings (word_of s) (number_of v) (counts_on a (state_of (word_of s)))) (word_of s) (number_of w)
       (λ hit. let here : number_of w ≡ number_of m.word = sym hit ∙ run.word_is in let now : m.word ≡ w = same_word m.word w (number_of w) refl here in let word : m.word ≡ state_of (word_of s) = sym (ap state_of run.word_is ∙ state_of_number_of m.word) in
-      let after = shares_after m p (acts_on a m.word) (number_of v) held (makes_change F T A limit a p ds us held changes w applied m f here) in let before = shares_now s run in
+      let after = shares_after m p (acts_on a m.word) (number_of v) held (makes_change F T A values limit a p ds us held changes w applied m f here) in let before = shares_now s run in
       ⊎_elim (λ (z : (counts_on a m.word ≡ false) × (shares_of (word_after m.word (acts_on a m.word)) ≡ shares_of m.word)). inl (ap (counts_on a) (sym word) ∙ z.0, after ∙ (z.1 ∙ sym before)))
       (λ (z : (counts_on a m.word ≡ true) × (shares_of (word_after m.word (acts_on a m.word)) ≡ shares_of m.word + 1)). inr (ap (counts_on a) (sym word) ∙ z.0, after ∙ (z.1 ∙ ap (λ k. k + 1) (sym before)), room s c))
       (moves m f (subst (λ (z : State). a.applies limit z ≡ true) (sym now) applied)))
       (inl (refl, refl))
 
-  pub may_give : {Row : Type 0} (id l : ℕ) (p : Position) (ds : List Deed) (us : List Member) (held : List (ℕ × TaskPlace F T A)) (a : Attempt Row) → OwesChange F T A limit a p ds us held → Moves Gives a p ds us → MayGive limit id (view l (member p ds ∷ us), held) a
-  may_give id l p ds us held a changes moves t w applied names s c at = let v = word_after w (acts_on a w) in let run = c.running in let m : Machine = run.machine in let f = finds_trying F T A limit s c.capped run id (view l (trying p ds t ∷ us)) l p ds t us at refl in
+  pub may_give : {Row : Type 0} (id l : ℕ) (p : Position) (ds : List Deed) (us : List Member) (held : List (ℕ × TaskPlace F T A)) (a : Attempt Row) → OwesChange F T A values limit a p ds us held → Moves Gives a p ds us → MayGive values limit id (view l (member p ds ∷ us), held) a
+  may_give id l p ds us held a changes moves t w applied names s c at = let v = word_after w (acts_on a w) in let run = c.running in let m : Machine = run.machine in let f = finds_trying F T A values limit s c.capped run id (view l (trying p ds t ∷ us)) l p ds t us at refl in
       exchange (ExchangeGives (word_of s) (number_of v) (counts_on a (state_of (word_of s)))) (word_of s) (number_of w)
       (λ hit. let here : number_of w ≡ number_of m.word = sym hit ∙ run.word_is in let now : m.word ≡ w = same_word m.word w (number_of w) refl here in let word : m.word ≡ state_of (word_of s) = sym (ap state_of run.word_is ∙ state_of_number_of m.word) in
-      let after = shares_after m p (acts_on a m.word) (number_of v) held (makes_change F T A limit a p ds us held changes w applied m f here) in let before = shares_now s run in
+      let after = shares_after m p (acts_on a m.word) (number_of v) held (makes_change F T A values limit a p ds us held changes w applied m f here) in let before = shares_now s run in
       ⊎_elim (λ (z : (counts_on a m.word ≡ false) × (shares_of (word_after m.word (acts_on a m.word)) ≡ shares_of m.word)). inl (ap (counts_on a) (sym word) ∙ z.0, after ∙ (z.1 ∙ sym before)))
       (λ (z : (counts_on a m.word ≡ true) × (shares_of (word_after m.word (acts_on a m.word)) + 1 ≡ shares_of m.word)). inr (ap (counts_on a) (sym word) ∙ z.0, ap (λ k. k + 1) after ∙ (z.1 ∙ sym before), one_at_least (handles (state_of (number_of v)))))
       (moves m f (subst (λ (z : State). a.applies limit z ≡ true) (sym now) applied)))

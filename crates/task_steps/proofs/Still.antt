@@ -5,6 +5,7 @@ use mathlib.Core.Option.{none}
 use Rattle.atomic_table.specs.Table.{Me, step}
 use Rattle.task_steps.proofs.Vocabulary.{State, bit, number_of, state_of_number_of, TaskPlace, Tries, View}
 use Rattle.task_steps.specs.Rule.{Entry, Tried, written_since}
+use Rattle.task_steps.specs.Values.{Values}
 use Rattle.task_steps.specs.Steps.{Makes}
 use Rattle.task_steps.specs.Attempt.{Attempt, acts_on}
 use Rattle.task_steps.specs.Attempts.{attempted}
@@ -19,7 +20,7 @@ pub sees_it_still : (k : ℕ) (log : List Entry) (w : State) (t : Tries) → Tri
 sees_it_still k log w t tried still = (omega arith, same_by (number_of t.seen) (number_of w) (ℕ_discrete (number_of t.seen) (number_of w)) (omega arith))
 
 -- .. so that its exchange makes the change
-pub made_while_still : {F T A Row : Type 0} (a : Attempt Row) (k : ℕ) (log : List Entry) (w : State) (t : Tries) (slots new : ℕ) (m m' : Me (TaskPlace F T A) View) → Tried k log w (Some t) → written_since k log ≡ 0
-    → attempted a (step slots 0 (number_of t.seen) new none) m (number_of w) m' → (t.misses ≡ 0) × Makes (acts_on a w) w m m'
-made_while_still a k log w t slots new m m' tried still exchange = let s = sees_it_still k log w t tried still in
-    (s.0, subst (λ v. Makes (acts_on a v) v m m') (state_of_number_of w) (exchange.0 (sym s.1)))
+pub made_while_still : {F T A Row : Type 0} (values : Values F T) (a : Attempt Row) (k : ℕ) (log : List Entry) (w : State) (t : Tries) (slots new : ℕ) (m m' : Me (TaskPlace F T A) View) → Tried k log w (Some t) → written_since k log ≡ 0
+    → attempted values a (step slots 0 (number_of t.seen) new none) m (number_of w) m' → (t.misses ≡ 0) × Makes values (acts_on a w) w m m'
+made_while_still values a k log w t slots new m m' tried still exchange = let s = sees_it_still k log w t tried still in
+    (s.0, subst (λ v. Makes values (acts_on a v) v m m') (state_of_number_of w) (exchange.0 (sym s.1)))

@@ -7,6 +7,7 @@ use Rattle.task_steps.proofs.Vocabulary.{State, bit, number_of, is_open, Act, Ev
 use Rattle.task_steps.proofs.Vocabulary.{CancelIdle, DetachOrphan, DetachLast, Detach, EndCall, Slots, notifies, Machine, owns_awaiter}
 use Rattle.task_steps.proofs.Vocabulary.{Census, census, Holds, TaskPlace, Empty, Deed, Member}
 use Rattle.task_core.specs.Rows.{found}
+use Rattle.task_steps.specs.Values.{Values}
 use Rattle.task_steps.specs.Rule.{has_work}
 use Rattle.task_steps.specs.Steps.{saw_closed, work_first}
 use Rattle.task_steps.specs.Scripts.{dropping_output}
@@ -50,14 +51,14 @@ pub idle_cancel : (b : Bool) (n : ℕ) → (has_work (notifies b (OfCancel n)) �
 idle_cancel true n = (refl, refl)
 idle_cancel false n = (refl, refl)
 
-module _ (F T A : Type 0) (limit : ℕ) where
-  pub finds_over : (n : ℕ) (ds : List Deed) (us : List Member) (l : List (ℕ × TaskPlace F T A)) → OwesEnd F T A limit to_cancel (At (Task n)) ds us l
+module _ (F T A : Type 0) (values : Values F T) (limit : ℕ) where
+  pub finds_over : (n : ℕ) (ds : List Deed) (us : List Member) (l : List (ℕ × TaskPlace F T A)) → OwesEnd F T A values limit to_cancel (At (Task n)) ds us l
   finds_over n ds us l m f x e lt is = computed m (row_fits is) e refl
 
-  pub cancels : (n : ℕ) (ds : List Deed) (us : List Member) (l : List (ℕ × TaskPlace F T A)) → OwesChange F T A limit to_cancel (At (Task n)) ds us l
+  pub cancels : (n : ℕ) (ds : List Deed) (us : List Member) (l : List (ℕ × TaskPlace F T A)) → OwesChange F T A values limit to_cancel (At (Task n)) ds us l
   cancels n ds us l m f applied = closes (found 0 CancelIdle m.word) refl
     where
-      closes : (b : Bool) → found 0 CancelIdle m.word ≡ b → let acts : List Act = closing (if b then Idle m.word.awaiter else Busy m.word.awaiter) in Steps m (At (Task n)) acts (number_of (word_after m.word acts)) l
+      closes : (b : Bool) → found 0 CancelIdle m.word ≡ b → let acts : List Act = closing (if b then Idle m.word.awaiter else Busy m.word.awaiter) in Steps values m (At (Task n)) acts (number_of (word_after m.word acts)) l
       closes true fit = computed m (row_fits fit) refl refl
       closes false unfit = let i = idle_cancel m.word.awaiter n in by_table m (row_fits (busy_fits (is_open m.word) m.word.scheduled m.word.running applied unfit)) refl (refl, refl)
           (stays i.0 i.1 (inr (refl, refl)) (inr refl))
@@ -70,11 +71,11 @@ module _ (F T A : Type 0) (limit : ℕ) where
   is_last : (m : Machine) → nat_lt 0 m.word.references ≡ false → m.word.closed ≡ true → (nat_eq m.word.references 0 && m.word.closed) ≡ true
   is_last m none closed = both (nat_eq m.word.references 0) m.word.closed (none_left m.word.references none) closed
 
-  pub detaches : (n : ℕ) (ds : List Deed) (us : List Member) (l : List (ℕ × TaskPlace F T A)) → OwesChange F T A limit to_detach (At (Task n)) ds us l
+  pub detaches : (n : ℕ) (ds : List Deed) (us : List Member) (l : List (ℕ × TaskPlace F T A)) → OwesChange F T A values limit to_detach (At (Task n)) ds us l
   detaches n ds us l m f any = gives (found 0 Detach m.word) (found 0 DetachLast m.word) (found 0 DetachOrphan m.word) refl refl refl
     where
       gives : (a b c : Bool) → found 0 Detach m.word ≡ a → found 0 DetachLast m.word ≡ b → found 0 DetachOrphan m.word ≡ c
-          → let acts : List Act = detaching (if a then Shared else (if b then Last else (if c then Orphaned else Unclaimed))) in Steps m (At (Task n)) acts (number_of (word_after m.word acts)) l
+          → let acts : List Act = detaching (if a then Shared else (if b then Last else (if c then Orphaned else Unclaimed))) in Steps values m (At (Task n)) acts (number_of (word_after m.word acts)) l
       gives true b c fit x y = computed m (row_fits fit) refl refl
       gives false true c x fit y = by_table m (row_fits fit) refl (refl, refl)
           (takes_awaiter refl refl refl (inr (refl, refl)) (λ y h. (m.slots.awaiter, h)))
@@ -82,17 +83,17 @@ module _ (F T A : Type 0) (limit : ℕ) where
       gives false false false x y z = let claimed = output_left m.word.references m.word.completed m.word.closed x y z in by_table m (row_fits claimed) refl (refl, refl)
           (takes_output refl refl refl (inr refl) (output_lies m f.invariant claimed) (λ _ h. h))
 
-  pub drops_output : (ds : List Deed) (us : List Member) (l : List (ℕ × TaskPlace F T A)) → l ≡ work_first Empty (rest l) → Owes F T A limit dropping_output (λ n. n) OutputCloser ds us l
+  pub drops_output : (ds : List Deed) (us : List Member) (l : List (ℕ × TaskPlace F T A)) → l ≡ work_first Empty (rest l) → Owes F T A values limit dropping_output (λ n. n) OutputCloser ds us l
   drops_output ds us l has m f x e lt = let none = future_gone m.limit m.word m.slots m.trace (census m.parties) f.invariant.holds (counted (λ c. c.claims) (λ a b. refl) m.parties f.number OutputCloser f.stands) in by_table m refl e (refl, refl)
-      (gives_work Empty refl refl refl (inr refl) has (lies_nowhere F T (record (m.slots) { output = false }) none refl))
+      (gives_work Empty refl refl refl (inr refl) has (lies_nowhere F T values (record (m.slots) { output = false }) none refl))
 
-  pub gives_task_up : (ds : List Deed) (us : List Member) (l : List (ℕ × TaskPlace F T A)) → saw_closed ds ≡ true → Owes F T A limit giving_task_up (λ n. (n + (2 ^ 64 - 16)) % 2 ^ 64) Detacher ds us l
+  pub gives_task_up : (ds : List Deed) (us : List Member) (l : List (ℕ × TaskPlace F T A)) → saw_closed ds ≡ true → Owes F T A values limit giving_task_up (λ n. (n + (2 ^ 64 - 16)) % 2 ^ 64) Detacher ds us l
   gives_task_up ds us l saw m f x e lt = gives (nat_lt 0 m.word.references) refl
     where
       wrote : (x + (2 ^ 64 - 16)) % 2 ^ 64 ≡ number_of (record (m.word) { task = false })
       wrote = task_taken m.word x e lt (has_task m.limit m.word m.slots m.trace (census m.parties) f.invariant.holds (counted (λ c. c.tasks) (λ a b. refl) m.parties f.number Detacher f.stands))
 
-      gives : (b : Bool) → nat_lt 0 m.word.references ≡ b → Steps m Detacher (if b then Detach ∷ EndCall ∷ [] else DetachLast ∷ []) ((x + (2 ^ 64 - 16)) % 2 ^ 64) l
+      gives : (b : Bool) → nat_lt 0 m.word.references ≡ b → Steps values m Detacher (if b then Detach ∷ EndCall ∷ [] else DetachLast ∷ []) ((x + (2 ^ 64 - 16)) % 2 ^ 64) l
       gives true counted = computed m (row_fits (shares m counted (closed_claimed m.word.completed m.word.closed (f.closed saw)))) wrote refl
       gives false counted = by_table m (row_fits (is_last m counted (f.closed saw))) wrote (refl, refl)
           (takes_awaiter refl refl refl (inr (refl, refl)) (λ y h. (m.slots.awaiter, h)))

@@ -51,9 +51,7 @@ pub use Rattle.task_laws.proofs.Words.{rule_word}
 pub use Rattle.task_steps.specs.declared.table.Deed.{Deed}
 pub use Rattle.task_steps.specs.declared.table.Member.{Member}
 pub use Rattle.task_steps.specs.declared.table.Slot.{Slot}
-pub use Rattle.task_steps.specs.declared.table.Slot.TheVariants.{Empty}
-pub use Rattle.task_steps.specs.declared.table.Stage.{Stage}
-pub use Rattle.task_steps.specs.declared.table.Stage.TheVariants.{Filling, Laid, Spawned}
+pub use Rattle.task_steps.specs.declared.table.Slot.TheVariants.{Empty, Future}
 pub use Rattle.task_steps.specs.declared.table.Tries.{Tries}
 pub use Rattle.task_steps.specs.declared.table.View.{View}
 pub use Rattle.task_steps.specs.Rule.{TaskPlace}

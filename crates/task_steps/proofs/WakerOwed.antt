@@ -2,6 +2,7 @@
 use Rattle.std.proofs.Common.{◌≡◌, ℕ, ◌+◌, ◌-◌, ◌%◌, ◌^◌, ◌≤◌, Bool, true, false, not, ◌&&◌, ◌||◌, List, [], ◌∷◌, refl, sym, ap, ◌∙◌, subst, inr, arith}
 use Rattle.std.specs.Prelude.{nat_lt, nat_le, nat_eq, if◌then◌else◌}
 use Rattle.std.proofs.lemmas.Bool.Decides.{nat_tests}
+use Rattle.task_steps.specs.Values.{Values}
 use Rattle.task_steps.proofs.Vocabulary.{State, state_of, number_of, is_open, Event, Rest, Runnable, Waker, Lent}
 use Rattle.task_steps.proofs.Vocabulary.{At, OrphanHolder, DropWaker, DropLastWaker, OrphanTask, WakeScheduled, WakeRunning, WakeIdle}
 use Rattle.task_steps.proofs.Vocabulary.{Act, EndCall, Slots, is_held, may_ask, may_gain, may_wake, Machine, scene, Census, census, Holds, state_of_number_of, fetch_sub-reference, TaskPlace}
@@ -55,35 +56,35 @@ gains_it Waker m ask held = refl
 gains_it Lent m ask held = held
 gains_it r m ask held = never ask
 
-module _ (F T A : Type 0) (limit : ℕ) where
+module _ (F T A : Type 0) (values : Values F T) (limit : ℕ) where
   -- the count is at the limit
-  pub finds_limit : (r : Rest) (ds : List Deed) (us : List Member) (l : List (ℕ × TaskPlace F T A)) → may_ask r ≡ true → OwesEnd F T A limit to_gain (At r) ds us l
+  pub finds_limit : (r : Rest) (ds : List Deed) (us : List Member) (l : List (ℕ × TaskPlace F T A)) → may_ask r ≡ true → OwesEnd F T A values limit to_gain (At r) ds us l
   finds_limit r ds us l may m f x e lt full = computed m (allows _ (may_ask r) (at_the_limit m.word.references limit m.limit (not_true (nat_lt m.word.references limit) full) f.limited) may) e refl
 
   -- a reference is gained
-  pub gains : (r : Rest) (ds : List Deed) (us : List Member) (l : List (ℕ × TaskPlace F T A)) → may_ask r ≡ true → OwesChange F T A limit to_gain (At r) ds us l
+  pub gains : (r : Rest) (ds : List Deed) (us : List Member) (l : List (ℕ × TaskPlace F T A)) → may_ask r ≡ true → OwesChange F T A values limit to_gain (At r) ds us l
   gains r ds us l may m f applied = let room : nat_lt m.word.references limit ≡ true = right_true (is_held m.word) _ applied in
       computed m (allows _ (may_gain (scene m) r) (ap (λ k. nat_lt m.word.references k) f.limited ∙ room) (gains_it r m may (left_true (is_held m.word) _ applied))) refl refl
 
   -- the task is over
-  pub finds_over : (r : Rest) (ds : List Deed) (us : List Member) (l : List (ℕ × TaskPlace F T A)) → may_call r ≡ true → OwesEnd F T A limit to_wake (At r) ds us l
+  pub finds_over : (r : Rest) (ds : List Deed) (us : List Member) (l : List (ℕ × TaskPlace F T A)) → may_call r ≡ true → OwesEnd F T A values limit to_wake (At r) ds us l
   finds_over r ds us l may m f x e lt is = computed m (allows _ (may_wake (scene m) r) is (finds_it_over r m may (not_true (is_open m.word) is))) e refl
 
   -- a wake of an open task
-  pub wakes : (r : Rest) (ds : List Deed) (us : List Member) (l : List (ℕ × TaskPlace F T A)) → may_call r ≡ true → OwesChange F T A limit to_wake (At r) ds us l
+  pub wakes : (r : Rest) (ds : List Deed) (us : List Member) (l : List (ℕ × TaskPlace F T A)) → may_call r ≡ true → OwesChange F T A values limit to_wake (At r) ds us l
   wakes r ds us l may m f applied = by (found 0 WakeIdle m.word) (found 0 WakeRunning m.word) refl refl
     where
       lets : may_wake (scene m) r ≡ true
       lets = wakes_it r m may (left_true (is_held m.word) (is_open m.word) applied)
 
       by : (a b : Bool) → found 0 WakeIdle m.word ≡ a → found 0 WakeRunning m.word ≡ b
-          → let acts : List Act = waking_task (if a then Idle else (if b then Running else Scheduled)) in Steps m (At r) acts (number_of (word_after m.word acts)) l
+          → let acts : List Act = waking_task (if a then Idle else (if b then Running else Scheduled)) in Steps values m (At r) acts (number_of (word_after m.word acts)) l
       by true b fit too = computed m (allows _ (may_wake (scene m) r) fit lets) refl refl
       by false true unfit fit = computed m (allows _ (may_wake (scene m) r) fit lets) refl refl
       by false false unfit too = computed m (allows _ (may_wake (scene m) r) (scheduled_fits m.word (right_true (is_held m.word) (is_open m.word) applied) unfit too) lets) refl refl
 
   -- a waker is dropped
-  pub drops_waker : (ds : List Deed) (us : List Member) (l : List (ℕ × TaskPlace F T A)) → Owes F T A limit dropping_waker (λ n. (n + (2 ^ 64 - 256)) % 2 ^ 64) (At Waker) ds us l
+  pub drops_waker : (ds : List Deed) (us : List Member) (l : List (ℕ × TaskPlace F T A)) → Owes F T A values limit dropping_waker (λ n. (n + (2 ^ 64 - 256)) % 2 ^ 64) (At Waker) ds us l
   drops_waker ds us l m f x e lt = by (nat_lt 1 m.word.references || m.word.task) (is_open m.word) refl refl
     where
       here : 1 ≤ (census m.parties).wakers
@@ -99,12 +100,12 @@ module _ (F T A : Type 0) (limit : ℕ) where
       fewer = fetch_sub-reference x lt (subst (λ (w : State). 1 ≤ w.references) (sym is) some) ∙ ap (λ (w : State). number_of (record w { references = w.references - 1 })) is
 
       by : (b o : Bool) → (nat_lt 1 m.word.references || m.word.task) ≡ b → is_open m.word ≡ o
-          → Steps m (At Waker) (dropping_as (if b then Shared else (if o then Orphaned else Last))) ((x + (2 ^ 64 - 256)) % 2 ^ 64) l
+          → Steps values m (At Waker) (dropping_as (if b then Shared else (if o then Orphaned else Last))) ((x + (2 ^ 64 - 256)) % 2 ^ 64) l
       by true o shared now = computed m {acts = DropWaker ∷ EndCall ∷ []} (row_fits shared) fewer refl
       by false true shared now = computed m {acts = OrphanTask ∷ []} (row_fits (is_last m.word.references m.word.task (is_open m.word) some shared now)) fewer refl
       by false false shared now = by_table m {acts = DropLastWaker ∷ []} (row_fits (is_last m.word.references m.word.task (not (is_open m.word)) some shared (over (is_open m.word) now))) fewer (refl, refl)
           (takes_awaiter refl refl refl (inr (refl, refl)) (λ y w. (m.slots.awaiter, w)))
 
   -- the last waker closes the task
-  pub closes_orphan : (ds : List Deed) (us : List Member) (l : List (ℕ × TaskPlace F T A)) → Owes F T A limit closing_orphan (λ _. 265) OrphanHolder ds us l
+  pub closes_orphan : (ds : List Deed) (us : List Member) (l : List (ℕ × TaskPlace F T A)) → Owes F T A values limit closing_orphan (λ _. 265) OrphanHolder ds us l
   closes_orphan ds us l m f x e lt = computed m refl refl refl

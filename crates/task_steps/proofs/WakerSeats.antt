@@ -5,10 +5,11 @@ use lib.ListN.{get_elem?}
 use Rattle.atomic_table.specs.Table.{State as Board, Splits}
 use Rattle.atomic_table.proofs.Lists.{at_longer, set_again}
 use Rattle.task_steps.proofs.Vocabulary.{TaskPlace, Member, View}
+use Rattle.task_steps.specs.Values.{Values}
 use Rattle.task_steps.specs.Rule.{view, Explains, RuleHolds}
 use Rattle.task_steps.specs.Beside.{others, newest_of, without_newest, newest}
 use Rattle.task_steps.proofs.Explains.{inside, at_second}
-use Rattle.task_steps.proofs.Seats.{leaves, retold, staged_more, first_more}
+use Rattle.task_steps.proofs.Seats.{leaves, retold}
 
 pub others_are : (u n : Member) (us : List Member) → others (u ∷ (us ++ n ∷ [])) ≡ u ∷ us
 others_are u n [] = refl
@@ -18,12 +19,12 @@ pub newest_is : (u n : Member) (us : List Member) → newest_of (u ∷ (us ++ n 
 newest_is u n [] = refl
 newest_is u n (w ∷ us) = newest_is w n us
 
-module _ (F T A : Type 0) (limit : ℕ) where
+module _ (F T A : Type 0) (values : Values F T) (limit : ℕ) where
   abbrev B : Type 0
   B = Board (TaskPlace F T A) View
 
   abbrev Rule : B → Type 0
-  Rule = RuleHolds {F = F} {T = T} {A = A} limit
+  Rule = RuleHolds {A = A} values limit
 
   -- the newest party gets a seat of its own
   pub parts_newest : (id : ℕ) (v : View) (l : ℕ) (u n : Member) (us : List Member) → v ≡ view l (u ∷ (us ++ n ∷ [])) → Splits Rule id v (without_newest v) (newest v)
@@ -33,7 +34,7 @@ module _ (F T A : Type 0) (limit : ℕ) where
       let left : view l (u ∷ us) ≡ without_newest v = ap (view l) (sym (others_are u n us)) ∙ ap without_newest (sym is) in
       let right : view l (n ∷ []) ≡ newest v = ap (view l) (sym (newest_is u n us)) ∙ ap newest (sym is) in
       subst (λ vs. Rule record { words = s.words; homes = s.homes; views = vs }) (λ j. set s.views id (left j) ++ right j ∷ [])
-      (retold F T A limit s r.capped run (set s.views id (view l (u ∷ us)) ++ view l (n ∷ []) ∷ []) run.log run.machine t1 refl run.limited run.housed (first_more F T A limit s run id v (view l (u ∷ us)) (view l (n ∷ [])) l ms at is) (staged_more F T A limit s run id (view l (u ∷ us)) (view l (n ∷ [])) refl refl))
+      (retold F T A values limit s r.capped run (set s.views id (view l (u ∷ us)) ++ view l (n ∷ []) ∷ []) run.log run.machine t1 refl run.limited run.housed)
     where
       last : get_elem? (u ∷ (us ++ n ∷ [])) (length (u ∷ us)) ≡ some n
       last = let e : length (u ∷ us) + 0 ≡ length (u ∷ us) = omega arith in subst (λ (k : ℕ). get_elem? (u ∷ (us ++ n ∷ [])) k ≡ some n) e (at_second (u ∷ us) (n ∷ []) 0 n refl)

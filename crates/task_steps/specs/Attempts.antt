@@ -8,6 +8,7 @@ use Rattle.task_steps.specs.declared.attempt.TriedOnce.{TriedOnce}
 use Rattle.task_steps.specs.declared.attempt.TriedOnce.TheVariants.{Made, Ended, Again}
 use Rattle.task_steps.specs.declared.table.Tries.{Tries}
 use Rattle.task_steps.specs.declared.table.View.{View}
+use Rattle.task_steps.specs.Values.{Values}
 use Rattle.task_steps.specs.Rule.{TaskPlace, view, trying, RuleHolds}
 use Rattle.task_steps.specs.Steps.{head_of, tail_of, Makes}
 use Rattle.task_steps.specs.Knows.{Knows}
@@ -38,39 +39,39 @@ having_seen t v = view v.limit (trying (head_of v.members).at (head_of v.members
 
 module _ {F T A : Type 0} where
   -- what a load of an attempt tells: where the word ends the attempt, the acts of that end
-  abbrev pub observed : {Row : Type 0} → Attempt Row → Step (TaskPlace F T A) → Me (TaskPlace F T A) View → ℕ → Me (TaskPlace F T A) View → Type 0
-  observed a st m r m' = (a.ends m.0.limit (state_of r) ≡ true → Makes (a.acts_at_end (state_of r)) (state_of r) m m')
+  abbrev pub observed : {Row : Type 0} → Values F T → Attempt Row → Step (TaskPlace F T A) → Me (TaskPlace F T A) View → ℕ → Me (TaskPlace F T A) View → Type 0
+  observed values a st m r m' = (a.ends m.0.limit (state_of r) ≡ true → Makes values (a.acts_at_end (state_of r)) (state_of r) m m')
       × (a.ends m.0.limit (state_of r) ≡ false → m' ≡ (having_seen (looked (state_of r) (head_of m.0.members).tries) m.0, m.1))
       × Knows (head_of m.0.members).deeds (state_of r)
 
   -- .. and its exchange: where it finds the word that it names, the acts of the change
-  abbrev pub attempted : {Row : Type 0} → Attempt Row → Step (TaskPlace F T A) → Me (TaskPlace F T A) View → ℕ → Me (TaskPlace F T A) View → Type 0
-  attempted a st m r m' = (r ≡ st.first → Makes (acts_on a (state_of r)) (state_of r) m m')
+  abbrev pub attempted : {Row : Type 0} → Values F T → Attempt Row → Step (TaskPlace F T A) → Me (TaskPlace F T A) View → ℕ → Me (TaskPlace F T A) View → Type 0
+  attempted values a st m r m' = (r ≡ st.first → Makes values (acts_on a (state_of r)) (state_of r) m m')
       × (r ≢ st.first → m' ≡ (having_seen (missed (state_of r) (head_of m.0.members).tries) m.0, m.1))
       × Knows (head_of m.0.members).deeds (state_of r)
 
   -- the rule allows each load and each exchange of an attempt, whatever the party has seen
-  pub record MayTry {Row : Type 0} (limit slots id : ℕ) (me : Me (TaskPlace F T A) View) (a : Attempt Row) : Type 0 where
+  pub record MayTry {Row : Type 0} (values : Values F T) (limit slots id : ℕ) (me : Me (TaskPlace F T A) View) (a : Attempt Row) : Type 0 where
     pub loads : (t : Option Tries)
-        → Allows (RuleHolds {F = F} {T = T} {A = A} limit) slots id (having_seen t me.0, me.1) 0 (λ n. n)
-        (observed a (step slots 0 0 0 none) (having_seen t me.0, me.1))
+        → Allows (RuleHolds {A = A} values limit) slots id (having_seen t me.0, me.1) 0 (λ n. n)
+        (observed values a (step slots 0 0 0 none) (having_seen t me.0, me.1))
     pub exchanges : (t : Option Tries) (w : State) → a.applies limit w ≡ true → Names w t
-        → Allows (RuleHolds {F = F} {T = T} {A = A} limit) slots id (having_seen t me.0, me.1) 0
+        → Allows (RuleHolds {A = A} values limit) slots id (having_seen t me.0, me.1) 0
         (λ n. either (n == number_of w) (number_of (word_after w (acts_on a w))) n)
-        (attempted a (step slots 0 (number_of w) (number_of (word_after w (acts_on a w))) none) (having_seen t me.0, me.1))
+        (attempted values a (step slots 0 (number_of w) (number_of (word_after w (acts_on a w))) none) (having_seen t me.0, me.1))
 
   -- an attempt has made its change on a word of this row
-  pub record HasChanged {Row : Type 0} (limit : ℕ) (a : Attempt Row) (row : Row) (me me' : Me (TaskPlace F T A) View) : Type 0 where
+  pub record HasChanged {Row : Type 0} (values : Values F T) (limit : ℕ) (a : Attempt Row) (row : Row) (me me' : Me (TaskPlace F T A) View) : Type 0 where
     pub word : State
     pub is : row ≡ a.row word
     pub applied : a.applies limit word ≡ true
-    pub made : Makes (acts_on a word) word me me'
+    pub made : Makes values (acts_on a word) word me me'
     pub knows : Knows (head_of me.0.members).deeds word
 
   -- .. or this word has ended it
-  pub record HasEnded {Row : Type 0} (limit : ℕ) (a : Attempt Row) (w : State) (me me' : Me (TaskPlace F T A) View) : Type 0 where
+  pub record HasEnded {Row : Type 0} (values : Values F T) (limit : ℕ) (a : Attempt Row) (w : State) (me me' : Me (TaskPlace F T A) View) : Type 0 where
     pub at_end : a.ends limit w ≡ true
-    pub made : Makes (a.acts_at_end w) w me me'
+    pub made : Makes values (a.acts_at_end w) w me me'
     pub knows : Knows (head_of me.0.members).deeds w
 
   -- or the seat is as it was, but for what it has seen, which is this word
@@ -80,10 +81,10 @@ module _ {F T A : Type 0} where
     pub is : me' ≡ (having_seen tries me.0, me.1)
 
   -- what one try of a change has come to
-  abbrev pub HasTried : {Row M K : Type 0} → ℕ → Attempt Row → TriedOnce Row M K → Me (TaskPlace F T A) View → Me (TaskPlace F T A) View → Type 0
-  HasTried limit a (Made row m) me me' = HasChanged limit a row me me'
-  HasTried limit a (Ended w k) me me' = HasEnded limit a w me me'
-  HasTried limit a (Again w k) me me' = HasRoom w × HasSeen w me me'
+  abbrev pub HasTried : {Row M K : Type 0} → Values F T → ℕ → Attempt Row → TriedOnce Row M K → Me (TaskPlace F T A) View → Me (TaskPlace F T A) View → Type 0
+  HasTried values limit a (Made row m) me me' = HasChanged values limit a row me me'
+  HasTried values limit a (Ended w k) me me' = HasEnded values limit a w me me'
+  HasTried values limit a (Again w k) me me' = HasRoom w × HasSeen w me me'
 
 -- where it was made, or was not, this holds of what is answered
 abbrev pub IfMade : {Row M K : Type 0} → TriedOnce Row M K → (Row → M → Type 0) → (K → Type 0) → Type 0

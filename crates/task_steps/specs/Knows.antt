@@ -6,6 +6,7 @@ use Rattle.task_core.specs.declared.acts.Act.{Act}
 use Rattle.task_steps.specs.declared.table.Deed.{Deed}
 use Rattle.task_steps.specs.declared.table.View.{View}
 use Rattle.task_steps.specs.PollScripts.{has_ended}
+use Rattle.task_steps.specs.Values.{Values}
 use Rattle.task_steps.specs.Rule.{TaskPlace}
 use Rattle.task_steps.specs.Steps.{head_of, Makes, saw_over, saw_closed, saw_ended}
 
@@ -18,5 +19,5 @@ pub record Knows (ds : List Deed) (w : State) : Type 0 where
 
 module _ {F T A : Type 0} where
   -- what a step tells that always makes its acts, and what is known of the word that it finds
-  abbrev pub known : (State → List Act) → Step (TaskPlace F T A) → Me (TaskPlace F T A) View → ℕ → Me (TaskPlace F T A) View → Type 0
-  known acts st m r m' = Makes (acts (state_of r)) (state_of r) m m' × Knows (head_of m.0.members).deeds (state_of r)
+  abbrev pub known : Values F T → (State → List Act) → Step (TaskPlace F T A) → Me (TaskPlace F T A) View → ℕ → Me (TaskPlace F T A) View → Type 0
+  known values acts st m r m' = Makes values (acts (state_of r)) (state_of r) m m' × Knows (head_of m.0.members).deeds (state_of r)

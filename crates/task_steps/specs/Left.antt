@@ -7,6 +7,7 @@ use Rattle.task_steps.specs.declared.table.Member.{Member}
 use Rattle.task_steps.specs.declared.table.View.{View}
 use Rattle.task_steps.specs.Rule.{TaskPlace, IsEmpty, Waits, WorkAtHome, AwaiterAtHome, RuleHolds}
 use Rattle.task_steps.specs.Shares.{has_emptied}
+use Rattle.task_steps.specs.Values.{Values}
 
 module _ {F T A : Type 0} where
   -- both places are at home, and nothing lies there
@@ -15,7 +16,7 @@ module _ {F T A : Type 0} where
     pub awaiter : AwaiterAtHome s.homes (Waits None)
 
 -- .. wherever the rule holds, and a party has emptied the places, as who closes the last share has
-abbrev pub EmptyAtClose : Type 0 → Type 0 → Type 0 → Type 0
-EmptyAtClose F T A =
-    (limit : ℕ) (s : Board (TaskPlace F T A) View) → RuleHolds {F = F} {T = T} {A = A} limit s → (id : ℕ) (v : View) (u : Member) (us : List Member)
+abbrev pub EmptyAtClose : {F T : Type 0} → Values F T → Type 0 → Type 0
+EmptyAtClose {F} {T} values A =
+    (limit : ℕ) (s : Board (TaskPlace F T A) View) → RuleHolds {A = A} values limit s → (id : ℕ) (v : View) (u : Member) (us : List Member)
     → get_elem? s.views id ≡ some v → v.members ≡ u ∷ us → has_emptied u.deeds ≡ true → NothingLies s

@@ -1,3 +1,4 @@
+pub mod Values
 pub mod Rule
 pub mod Left
 pub mod Steps

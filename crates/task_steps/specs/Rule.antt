@@ -1,4 +1,4 @@
--- The rule of the table: an interleaving of the machine ends in the present word, and each party of a seat did in it what the seat knows.
+-- The rule of the table: an interleaving of the machine ends in the present word, each party of a seat did in it what the seat knows, and each value in place 0 comes from the future that was spawned.
 use Rattle.std.specs.Prelude.{◌⊎◌, ◌≡◌, ◌≢◌, ℕ, ◌+◌, ◌<◌, ◌≤◌, Bool, true, false, not, ◌&&◌, ◌||◌, cond, eqb, nat_lt, is_none, List, [], ◌∷◌, ◌++◌, length, slice_index}
 use Rattle.std.specs.Prelude.{Option, Some, None}
 use mathlib.Core.Option.{some}
@@ -21,8 +21,7 @@ use Rattle.task_laws.specs.Machine.{Machine, Step, opening, step, how_many}
 use Rattle.task_laws.specs.Holders.{owns_awaiter}
 use Rattle.task_steps.specs.declared.table.Slot.{Slot}
 use Rattle.task_steps.specs.declared.table.Slot.TheVariants.{Empty, Future, Output}
-use Rattle.task_steps.specs.declared.table.Stage.{Stage}
-use Rattle.task_steps.specs.declared.table.Stage.TheVariants.{Laid, Filling, Spawned}
+use Rattle.task_steps.specs.Values.{Values}
 use Rattle.task_steps.specs.declared.table.Deed.{Deed}
 use Rattle.task_steps.specs.declared.table.Tries.{Tries}
 use Rattle.task_steps.specs.declared.table.Member.{Member}
@@ -44,25 +43,13 @@ member p l = trying p l None
 abbrev pub fresh : Position → Member
 fresh p = member p []
 
--- a seat of a task that was spawned
+-- a seat, by the limit of references and its parties
 abbrev pub view : ℕ → List Member → View
-view l ms = record { stage = Spawned; limit = l; members = ms }
+view l ms = record { limit = l; members = ms }
 
--- the opening seat: the Runnable and the Task, before the spawn and after it
-abbrev pub opening_at : Stage → ℕ → View
-opening_at stage l = record { stage = stage; limit = l; members = fresh (At Runnable) ∷ fresh (At (Task 0)) ∷ [] }
-
--- the opening seat, as long as no future was put in
-abbrev pub laid_view : ℕ → View
-laid_view l = opening_at Laid l
-
--- the opening seat while it puts the future in
-abbrev pub filling_view : ℕ → View
-filling_view l = opening_at Filling l
-
--- the opening seat once the task is spawned
+-- the opening seat: the Runnable and the Task
 abbrev pub opening_view : ℕ → View
-opening_view l = opening_at Spawned l
+opening_view l = view l (fresh (At Runnable) ∷ fresh (At (Task 0)) ∷ [])
 
 -- the party that is no seat's: it lends its waker to each call by reference
 abbrev pub lender : ℕ
@@ -174,24 +161,24 @@ has_work _ = false
 abbrev pub TaskPlace : Type 0 → Type 0 → Type 0 → Type 0
 TaskPlace F T A = Place (Slot F T) (Option A)
 
-module _ {F T : Type 0} where
+-- nothing lies in place 0
+abbrev pub IsEmpty : {F T : Type 0} → Slot F T → Type 0
+IsEmpty Empty = Unit {0}
+IsEmpty (Future f) = ⊥
+IsEmpty (Output x) = ⊥
+
+module _ {F T : Type 0} (values : Values F T) where
   -- the future lies in place 0
   abbrev pub IsFuture : Slot F T → Type 0
-  IsFuture (Future f) = Unit {0}
+  IsFuture (Future f) = values.future f
   IsFuture Empty = ⊥
   IsFuture (Output x) = ⊥
 
   -- the output lies in place 0
   abbrev pub IsOutput : Slot F T → Type 0
-  IsOutput (Output x) = Unit {0}
+  IsOutput (Output x) = values.output x
   IsOutput Empty = ⊥
   IsOutput (Future f) = ⊥
-
-  -- nothing lies in place 0
-  abbrev pub IsEmpty : Slot F T → Type 0
-  IsEmpty Empty = Unit {0}
-  IsEmpty (Future f) = ⊥
-  IsEmpty (Output x) = ⊥
 
   -- what lies in place 0, where the machine has a future, or an output; it never has both, by `never_both` of task_laws
   abbrev pub Lies : Bool → Bool → Slot F T → Type 0
@@ -215,31 +202,22 @@ module _ {F T A : Type 0} where
   abbrev pub AwaiterAtHome : List (maybe.Option (TaskPlace F T A)) → (Option A → Type 0) → Type 0
   AwaiterAtHome homes Is = (y : Option A) × (get_elem? homes 1 ≡ some (some (Second y))) × Is y
 
-  -- a place that no party has is at home, with what the machine says, place 0 once the future was put in
-  pub record HomesAgree (filled : Bool) (m : Machine) (homes : List (maybe.Option (TaskPlace F T A))) : Type 0 where
-    pub work : filled ≡ true → how_many has_work m.parties ≡ 0 → WorkAtHome homes (Lies m.slots.future m.slots.output)
+  -- a place that no party has is at home, with what the machine says
+  pub record HomesAgree (values : Values F T) (m : Machine) (homes : List (maybe.Option (TaskPlace F T A))) : Type 0 where
+    pub work : how_many has_work m.parties ≡ 0 → WorkAtHome homes (Lies values m.slots.future m.slots.output)
     pub awaiter : how_many owns_awaiter m.parties ≡ 0 → AwaiterAtHome homes (Waits m.slots.awaiter)
 
-  -- until the future was put in, place 0 is empty, or with the opening seat
-  pub record Unfilled (limit : ℕ) (s : Board (TaskPlace F T A) View) : Type 0 where
-    pub stage : Stage
-    pub first : get_elem? s.views 0 ≡ some (opening_at stage limit)
-    pub place : (stage ≡ Laid) × WorkAtHome s.homes IsEmpty ⊎ (stage ≡ Filling)
-
-  -- an interleaving of the machine, from the moment in which there is memory for the task
-  pub record Running (limit : ℕ) (s : Board (TaskPlace F T A) View) : Type 0 where
+  -- an interleaving of the machine
+  pub record Running (values : Values F T) (limit : ℕ) (s : Board (TaskPlace F T A) View) : Type 0 where
     pub log : List Entry
     pub machine : Machine
-    pub filled : Bool
     pub limited : machine.limit ≡ limit
     pub told : Explains limit s.views log machine
     pub wide : length s.words ≡ 1
     pub word_is : slice_index s.words 0 ≡ number_of machine.word
-    pub housed : HomesAgree filled machine s.homes
-    pub unfilled : filled ≡ false → Unfilled limit s
-    pub staged : (seat : ℕ) (v : View) → (filled ≡ false → seat ≢ 0) → get_elem? s.views seat ≡ some v → v.stage ≡ Spawned
+    pub housed : HomesAgree values machine s.homes
 
   -- the rule of a cell: its limit is below 2 ^ 55, and an interleaving explains its word, its places and its seats
-  pub record RuleHolds (limit : ℕ) (s : Board (TaskPlace F T A) View) : Type 0 where
+  pub record RuleHolds (values : Values F T) (limit : ℕ) (s : Board (TaskPlace F T A) View) : Type 0 where
     pub capped : limit < 36028797018963968
-    pub running : Running limit s
+    pub running : Running values limit s

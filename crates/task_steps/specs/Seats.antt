@@ -1,13 +1,11 @@
 -- How the parties of a seat go to other seats.
-use Rattle.std.specs.Prelude.{Bool, true, false, ◌||◌, List, [], ◌∷◌, None}
+use Rattle.std.specs.Prelude.{Bool, true, false, List, [], ◌∷◌, None}
 use Rattle.task_laws.specs.declared.positions.Position.{Position}
 use Rattle.task_laws.specs.declared.positions.Position.TheVariants.{At}
 use Rattle.task_laws.specs.declared.positions.Rest.TheVariants.{Runnable, Ended, Lent}
 use Rattle.task_core.specs.declared.acts.Act.TheVariants.{HandOver}
 use Rattle.task_steps.specs.declared.table.Deed.{Deed}
 use Rattle.task_steps.specs.declared.table.Member.{Member}
-use Rattle.task_steps.specs.declared.table.Stage.{Stage}
-use Rattle.task_steps.specs.declared.table.Stage.TheVariants.{Laid}
 use Rattle.task_steps.specs.declared.table.View.{View}
 use Rattle.task_steps.specs.Rule.{deed, member, view, fresh}
 use Rattle.task_steps.specs.Steps.{head_of, tail_of}
@@ -28,14 +26,10 @@ needs_nobody (At Ended) deeds = true
 needs_nobody (At Lent) (newest ∷ older) = true
 needs_nobody at deeds = false
 
--- nobody will step with the seat again: no task was spawned by it, or it has one party at most, which may be let go
+-- nobody will step with the seat again: it has one party at most, which may be let go
 abbrev pub is_spent : View → Bool
-is_spent v = is_laid v.stage || none_left v.members
+is_spent v = none_left v.members
   where
-    is_laid : Stage → Bool
-    is_laid Laid = true
-    is_laid _ = false
-
     none_left : List Member → Bool
     none_left [] = true
     none_left (u ∷ []) = needs_nobody u.at u.deeds

@@ -9,6 +9,7 @@ use Rattle.task_core.specs.declared.acts.Act.TheVariants.{EmptySlots}
 use Rattle.task_steps.specs.declared.table.Tries.{Tries}
 use Rattle.task_steps.specs.declared.table.View.{View}
 use Rattle.task_steps.specs.declared.table.Deed.{Deed}
+use Rattle.task_steps.specs.Values.{Values}
 use Rattle.task_steps.specs.Rule.{TaskPlace, RuleHolds}
 use Rattle.task_steps.specs.Attempts.{Names, having_seen}
 use Rattle.task_steps.specs.Attempt.{Attempt, word_after, acts_on, counts_on}
@@ -44,17 +45,17 @@ has_references w = nat_lt 0 w.references
 abbrev pub counted : {S : Type 0} → (State → Bool) → Step S → ℕ → Bool
 counted counts st n = (n == st.first) && counts (state_of n)
 
-module _ {F T A : Type 0} where
+module _ {F T A : Type 0} (values : Values F T) where
   -- whatever the party has seen, each exchange of its attempt brings a share where the change counts
   abbrev pub MayBring : {Row : Type 0} → ℕ → ℕ → Me (TaskPlace F T A) View → Attempt Row → Type 0
   MayBring limit id me a =
       (t : Option Tries) (w : State) → a.applies limit w ≡ true → Names w t
-      → More (RuleHolds {F = F} {T = T} {A = A} limit) shares_out id (having_seen t me.0) (λ n. either (n == number_of w) (number_of (word_after w (acts_on a w))) n)
+      → More (RuleHolds {A = A} values limit) shares_out id (having_seen t me.0) (λ n. either (n == number_of w) (number_of (word_after w (acts_on a w))) n)
       (λ n. (n == number_of w) && counts_on a (state_of n))
 
   -- .. and gives one up where the change counts
   abbrev pub MayGive : {Row : Type 0} → ℕ → ℕ → Me (TaskPlace F T A) View → Attempt Row → Type 0
   MayGive limit id me a =
       (t : Option Tries) (w : State) → a.applies limit w ≡ true → Names w t
-      → Less (RuleHolds {F = F} {T = T} {A = A} limit) shares_out id (having_seen t me.0) (λ n. either (n == number_of w) (number_of (word_after w (acts_on a w))) n)
+      → Less (RuleHolds {A = A} values limit) shares_out id (having_seen t me.0) (λ n. either (n == number_of w) (number_of (word_after w (acts_on a w))) n)
       (λ n. (n == number_of w) && counts_on a (state_of n))

@@ -12,6 +12,7 @@ use Rattle.task_core.specs.declared.acts.Act.{Act}
 use Rattle.task_core.specs.Rows.{found, written}
 use Rattle.task_laws.specs.Table.{Slots, Scene, Outcome, leaves_slots, outcome_at}
 use Rattle.task_laws.specs.Holders.{owns_awaiter}
+use Rattle.task_steps.specs.Values.{Values}
 use Rattle.task_steps.specs.declared.table.Slot.{Slot}
 use Rattle.task_steps.specs.declared.table.Deed.{Deed}
 use Rattle.task_steps.specs.declared.table.Member.{Member}
@@ -101,40 +102,40 @@ module _ {F T A : Type 0} where
   awaiter_first y l = (1, Second y) ∷ l
 
   -- place 0 is taken, with the future
-  abbrev pub TakesFuture : List (ℕ × TaskPlace F T A) → List (ℕ × TaskPlace F T A) → Type 0
-  TakesFuture l l' = (y : Slot F T) × IsFuture y × (l' ≡ work_first y l)
+  abbrev pub TakesFuture : Values F T → List (ℕ × TaskPlace F T A) → List (ℕ × TaskPlace F T A) → Type 0
+  TakesFuture values l l' = (y : Slot F T) × IsFuture values y × (l' ≡ work_first y l)
 
   -- .. with the output
-  abbrev pub TakesOutput : List (ℕ × TaskPlace F T A) → List (ℕ × TaskPlace F T A) → Type 0
-  TakesOutput l l' = (y : Slot F T) × IsOutput y × (l' ≡ work_first y l)
+  abbrev pub TakesOutput : Values F T → List (ℕ × TaskPlace F T A) → List (ℕ × TaskPlace F T A) → Type 0
+  TakesOutput values l l' = (y : Slot F T) × IsOutput values y × (l' ≡ work_first y l)
 
   -- for which of the two a party takes it
-  abbrev pub Works : Position → List (ℕ × TaskPlace F T A) → List (ℕ × TaskPlace F T A) → Type 0
-  Works OutputCloser l l' = TakesOutput l l'
-  Works (TookOutput n) l l' = TakesOutput l l'
-  Works (Notifier (OfClaim n)) l l' = TakesOutput l l'
-  Works _ l l' = TakesFuture l l'
+  abbrev pub Works : Values F T → Position → List (ℕ × TaskPlace F T A) → List (ℕ × TaskPlace F T A) → Type 0
+  Works values OutputCloser l l' = TakesOutput values l l'
+  Works values (TookOutput n) l l' = TakesOutput values l l'
+  Works values (Notifier (OfClaim n)) l l' = TakesOutput values l l'
+  Works values _ l l' = TakesFuture values l l'
 
   -- the places that a party has before and after a step, by whether it has each
-  abbrev pub Carries : Bool → Bool → Bool → Bool → Position → List (ℕ × TaskPlace F T A) → List (ℕ × TaskPlace F T A) → Type 0
-  Carries false true b c q l l' = Works q l l'
-  Carries true false b c q l l' = l' ≡ rest l
-  Carries false false false true q l l' = (y : Option A) × Awaits q y × (l' ≡ awaiter_first y l)
-  Carries true true false true q l l' = (y : Option A) × Awaits q y × (l' ≡ awaiter_first y l)
-  Carries false false true false q l l' = l' ≡ rest l
-  Carries true true true false q l l' = l' ≡ rest l
-  Carries _ _ _ _ q l l' = l' ≡ l
+  abbrev pub Carries : Values F T → Bool → Bool → Bool → Bool → Position → List (ℕ × TaskPlace F T A) → List (ℕ × TaskPlace F T A) → Type 0
+  Carries values false true b c q l l' = Works values q l l'
+  Carries values true false b c q l l' = l' ≡ rest l
+  Carries values false false false true q l l' = (y : Option A) × Awaits q y × (l' ≡ awaiter_first y l)
+  Carries values true true false true q l l' = (y : Option A) × Awaits q y × (l' ≡ awaiter_first y l)
+  Carries values false false true false q l l' = l' ≡ rest l
+  Carries values true true true false q l l' = l' ≡ rest l
+  Carries values _ _ _ _ q l l' = l' ≡ l
 
   -- the places that a party has before and after a step, by where it stands
-  abbrev pub Carried : Position → Position → List (ℕ × TaskPlace F T A) → List (ℕ × TaskPlace F T A) → Type 0
-  Carried p q l l' = Carries (has_work p) (has_work q) (owns_awaiter p) (owns_awaiter q) q l l'
+  abbrev pub Carried : Values F T → Position → Position → List (ℕ × TaskPlace F T A) → List (ℕ × TaskPlace F T A) → Type 0
+  Carried values p q l l' = Carries values (has_work p) (has_work q) (owns_awaiter p) (owns_awaiter q) q l l'
 
   -- the seat made these acts, at this word, which fits them
-  pub record Makes (acts : List Act) (w : State) (m m' : Me (TaskPlace F T A) View) : Type 0 where
+  pub record Makes (values : Values F T) (acts : List Act) (w : State) (m m' : Me (TaskPlace F T A) View) : Type 0 where
     pub slots : Slots
     pub fits : all_fit m.0.limit w acts ≡ true
     pub viewed : m'.0 ≡ acted w slots acts m.0
-    pub carried : Carried (head_of m.0.members).at (head_of m'.0.members).at m.1 m'.1
+    pub carried : Carried values (head_of m.0.members).at (head_of m'.0.members).at m.1 m'.1
 
 -- the word that an act left, where it found one, is such a one
 abbrev pub leaves_such : (State → Bool) → Act → Option State → Bool

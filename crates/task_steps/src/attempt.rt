@@ -4,10 +4,12 @@ ghost use Rattle.task_core.specs.Word.{HasRoom};
 ghost use Rattle.task_steps.specs.Attempt.{Attempt, next_of, counts_on};
 ghost use Rattle.task_steps.specs.Attempts.{observed, attempted};
 ghost use Rattle.task_steps.specs.Shares.{counted};
+ghost use Rattle.task_steps.specs.Values.{values_of};
 
-use crate::table::{TaskPlace, View};
-use atomic_table::Play;
-use counted_block::CountPlay;
+use crate::kept::Kept;
+use crate::table::{TaskPlace, Terms, View};
+use counted_block::{BlockPlay, CountPlay};
+use task_core::Yields;
 use task_core::word::Word;
 
 /// A change of the word: on which words it is made, what it finds and writes, which words end the attempt, and the acts of both.
@@ -42,8 +44,8 @@ pub struct Observing<P: Change> {
     change: P,
 }
 
-impl<F, T, A, P: Change> Play<TaskPlace<F, T, A>, View> for Observing<P> {
-    ghost then = { observed P.attempt };
+impl<F: Yields, A, P: Change> BlockPlay<TaskPlace<F, Kept<F>, A>, View, Terms<F>> for Observing<P> {
+    ghost then = { λ terms. observed (values_of F.Yields terms.future.value) P.attempt };
 }
 
 /// A compare and exchange of an attempt.
@@ -51,10 +53,10 @@ pub struct Attempting<P: Change> {
     change: P,
 }
 
-impl<F, T, A, P: Change> Play<TaskPlace<F, T, A>, View> for Attempting<P> {
-    ghost then = { attempted P.attempt };
+impl<F: Yields, A, P: Change> BlockPlay<TaskPlace<F, Kept<F>, A>, View, Terms<F>> for Attempting<P> {
+    ghost then = { λ terms. attempted (values_of F.Yields terms.future.value) P.attempt };
 }
 
-impl<F, T, A, P: Change> CountPlay<TaskPlace<F, T, A>, View> for Attempting<P> {
+impl<F: Yields, A, P: Change> CountPlay<TaskPlace<F, Kept<F>, A>, View, Terms<F>> for Attempting<P> {
     ghost counts = { counted (counts_on P.attempt) };
 }

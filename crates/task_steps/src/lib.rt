@@ -7,6 +7,7 @@
 
 pub mod attempt;
 pub mod common;
+pub mod kept;
 pub mod places;
 pub mod poll;
 pub mod run;
@@ -19,10 +20,13 @@ pub mod waker;
 pub mod witness;
 
 ghost use Rattle.task_steps.specs.Left.{EmptyAtClose};
+ghost use Rattle.task_steps.specs.Values.{values_of};
+
+use task_core::Yields;
 
 pub use script::Knowing;
 
 /// Wherever the rule of a cell's table holds, and a party has emptied the places, as who closes the last share has, nothing lies there: neither future, nor output, nor awaiter.
-pub fn laws<F, T, A>()
-    ensures empty { EmptyAtClose F T A }
+pub fn laws<F: Yields, A>()
+    ensures empty { (spawned : F) → EmptyAtClose (values_of F.Yields spawned) A }
 {}

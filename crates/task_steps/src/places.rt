@@ -1,11 +1,11 @@
 //! What a call has in its hands: values that come out of the places of the block, or go into them.
 ghost use Rattle.std.specs.Prelude.{◌≡◌, Option, Some, None};
 ghost use Rattle.atomic_table.specs.Table.{rest};
-ghost use Rattle.task_steps.specs.Rule.{IsOutput};
 ghost use Rattle.task_steps.specs.Held.{held};
 ghost use Rattle.task_steps.specs.Steps.{work_first, awaiter_first};
 
-use crate::table::{Block, Kept, Slot, TaskSeat};
+use crate::kept::Kept;
+use crate::table::{Block, Slot, TaskSeat};
 use std::alloc::Allocator;
 use task_core::{Wake, Yields};
 
@@ -72,7 +72,7 @@ impl<F: Drop, T: Drop> Content<F, T> {
 
     /// The output that lay there.
     pub fn into_output(self) -> Held<T>
-        requires { IsOutput self.slot }
+        requires { (x : T) × (self.slot ≡ Slot.Output x) }
         ensures { self.slot ≡ Slot.Output result.value }
     {
         let Content { slot } = self;
@@ -84,11 +84,11 @@ impl<F: Drop, T: Drop> Content<F, T> {
 }
 
 /// Leaves nothing in the place of the work, which the seat has in front, and answers what lay there.
-pub fn take_work<F, T, A, V, B: Allocator>(
-    block: &Block<F, T, A, V, B>,
-    seat: &mut TaskSeat<F, T, A>,
-) -> Content<F, T>
-    requires { (seat.old.block ≡ block.now.id) × ((old : Slot F T) × (seat.old.me.1 ≡ work_first old (rest seat.old.me.1))) }
+pub fn take_work<F: Yields, A, V, B: Allocator>(
+    block: &Block<F, A, V, B>,
+    seat: &mut TaskSeat<F, Kept<F>, A>,
+) -> Content<F, Kept<F>>
+    requires { (seat.old.block ≡ block.now.id) × ((old : Slot F _) × (seat.old.me.1 ≡ work_first old (rest seat.old.me.1))) }
     ensures { (seat.new.block ≡ seat.old.block) × (seat.new.id ≡ seat.old.id) × (seat.old.me.1 ≡ work_first result.slot (rest seat.old.me.1)) × (seat.new.me ≡ (seat.old.me.0, work_first Slot.Empty (rest seat.old.me.1))) }
 {
     let slot = block.swap_first(seat, Slot::Empty);
@@ -96,12 +96,12 @@ pub fn take_work<F, T, A, V, B: Allocator>(
 }
 
 /// Puts the future into the place of the work, which the seat has in front, and answers what lay there.
-pub fn put_future<F, T, A, V, B: Allocator>(
-    block: &Block<F, T, A, V, B>,
-    seat: &mut TaskSeat<F, T, A>,
+pub fn put_future<F: Yields, A, V, B: Allocator>(
+    block: &Block<F, A, V, B>,
+    seat: &mut TaskSeat<F, Kept<F>, A>,
     future: Held<F>,
-) -> Content<F, T>
-    requires { (seat.old.block ≡ block.now.id) × ((old : Slot F T) × (seat.old.me.1 ≡ work_first old (rest seat.old.me.1))) }
+) -> Content<F, Kept<F>>
+    requires { (seat.old.block ≡ block.now.id) × ((old : Slot F _) × (seat.old.me.1 ≡ work_first old (rest seat.old.me.1))) }
     ensures { (seat.new.block ≡ seat.old.block) × (seat.new.id ≡ seat.old.id) × (seat.old.me.1 ≡ work_first result.slot (rest seat.old.me.1)) × (seat.new.me ≡ (seat.old.me.0, work_first (Slot.Future future.value) (rest seat.old.me.1))) }
 {
     let Held { value } = future;
@@ -110,12 +110,12 @@ pub fn put_future<F, T, A, V, B: Allocator>(
 }
 
 /// Puts the output into the place of the work, which the seat has in front, and answers what lay there.
-pub fn put_output<F, T, A, V, B: Allocator>(
-    block: &Block<F, T, A, V, B>,
-    seat: &mut TaskSeat<F, T, A>,
-    output: Held<T>,
-) -> Content<F, T>
-    requires { (seat.old.block ≡ block.now.id) × ((old : Slot F T) × (seat.old.me.1 ≡ work_first old (rest seat.old.me.1))) }
+pub fn put_output<F: Yields, A, V, B: Allocator>(
+    block: &Block<F, A, V, B>,
+    seat: &mut TaskSeat<F, Kept<F>, A>,
+    output: Held<Kept<F>>,
+) -> Content<F, Kept<F>>
+    requires { (seat.old.block ≡ block.now.id) × ((old : Slot F _) × (seat.old.me.1 ≡ work_first old (rest seat.old.me.1))) }
     ensures { (seat.new.block ≡ seat.old.block) × (seat.new.id ≡ seat.old.id) × (seat.old.me.1 ≡ work_first result.slot (rest seat.old.me.1)) × (seat.new.me ≡ (seat.old.me.0, work_first (Slot.Output output.value) (rest seat.old.me.1))) }
 {
     let Held { value } = output;
@@ -124,9 +124,9 @@ pub fn put_output<F, T, A, V, B: Allocator>(
 }
 
 /// Leaves no awaiter in its place, which the seat has in front, and answers the one that lay there.
-pub fn take_awaiter<F, T, A, V, B: Allocator>(
-    block: &Block<F, T, A, V, B>,
-    seat: &mut TaskSeat<F, T, A>,
+pub fn take_awaiter<F: Yields, A, V, B: Allocator>(
+    block: &Block<F, A, V, B>,
+    seat: &mut TaskSeat<F, Kept<F>, A>,
 ) -> Option<Held<A>>
     requires { (seat.old.block ≡ block.now.id) × ((old : Option A) × (seat.old.me.1 ≡ awaiter_first old (rest seat.old.me.1))) }
     ensures { (seat.new.block ≡ seat.old.block) × (seat.new.id ≡ seat.old.id) × (seat.old.me.1 ≡ awaiter_first (held result) (rest seat.old.me.1)) × (seat.new.me ≡ (seat.old.me.0, awaiter_first None (rest seat.old.me.1))) }
@@ -135,9 +135,9 @@ pub fn take_awaiter<F, T, A, V, B: Allocator>(
 }
 
 /// Puts an awaiter into its place, which the seat has in front, and answers the one that lay there.
-pub fn put_awaiter<F, T, A, V, B: Allocator>(
-    block: &Block<F, T, A, V, B>,
-    seat: &mut TaskSeat<F, T, A>,
+pub fn put_awaiter<F: Yields, A, V, B: Allocator>(
+    block: &Block<F, A, V, B>,
+    seat: &mut TaskSeat<F, Kept<F>, A>,
     awaiter: Held<A>,
 ) -> Option<Held<A>>
     requires { (seat.old.block ≡ block.now.id) × ((old : Option A) × (seat.old.me.1 ≡ awaiter_first old (rest seat.old.me.1))) }

@@ -1,12 +1,14 @@
 //! The steps of the calls by name: which acts each makes, by the word that it finds.
 ghost use Rattle.task_steps.specs.Knows.{known};
+ghost use Rattle.task_steps.specs.Values.{values_of};
 ghost use Rattle.std.specs.Prelude.{List, Bool};
 ghost use Rattle.task_core.specs.Word.{State, state_of};
 ghost use Rattle.task_core.specs.declared.acts.Act.{Act};
 
-use crate::table::{TaskPlace, View};
-use atomic_table::Play;
-use counted_block::CountPlay;
+use crate::kept::Kept;
+use crate::table::{TaskPlace, Terms, View};
+use counted_block::{BlockPlay, CountPlay};
+use task_core::Yields;
 
 /// The acts of a step, by the word that it finds.
 pub trait Script {
@@ -23,10 +25,10 @@ pub struct Knowing<P: Script> {
     script: P,
 }
 
-impl<F, T, A, P: Script> Play<TaskPlace<F, T, A>, View> for Knowing<P> {
-    ghost then = { known P.acts };
+impl<F: Yields, A, P: Script> BlockPlay<TaskPlace<F, Kept<F>, A>, View, Terms<F>> for Knowing<P> {
+    ghost then = { λ terms. known (values_of F.Yields terms.future.value) P.acts };
 }
 
-impl<F, T, A, P: Giving> CountPlay<TaskPlace<F, T, A>, View> for Knowing<P> {
+impl<F: Yields, A, P: Giving> CountPlay<TaskPlace<F, Kept<F>, A>, View, Terms<F>> for Knowing<P> {
     ghost counts = { λ _ n. P.gives (state_of n) };
 }

@@ -1,12 +1,16 @@
 //! The table of a cell: its one word, its places, and what a seat knows.
-ghost use Rattle.std.specs.Prelude.{◌≡◌, ◌<◌, ◌^◌, [], true, IfOk, IfErr};
+ghost use Rattle.std.specs.Prelude.{◌≡◌, ◌<◌, ◌^◌, [], true, None, IfOk, IfErr};
 ghost use Rattle.task_core.specs.Poll.{IfReady};
-ghost use Rattle.task_steps.specs.Rule.{laid_view, IsFuture};
+ghost use Rattle.task_steps.specs.Rule.{opening_view};
+ghost use Rattle.task_steps.specs.declared.table.TheConstants.{OPENING};
+ghost use Rattle.task_steps.specs.declared.table.Slot.{Slot};
 ghost use Rattle.task_steps.specs.Seats.{is_spent};
 
+pub use crate::kept::Kept;
 use counted_block::{Bare, BlockRule, Hold, Inner, Ledger, MaybeShare, Place, Seat, Share};
 use std::alloc::{AllocFailed, Allocator};
 use std::collections::LinkedList;
+use std::snapshot::Snapshot;
 use task_core::acts::Act;
 use task_core::word::{REFERENCE, SCHEDULED, TASK, Word};
 use task_core::{Future, Poll, Yields};
@@ -21,14 +25,6 @@ pub enum Slot<F, T> {
     Future(F),
     /// The output, until it is handed out or dropped.
     Output(T),
-}
-
-/// An output, and that it meets what its future's type states.
-#[derive(Drop)]
-pub struct Kept<F: Yields> {
-    /// The output.
-    pub output: F::Output,
-    ghost meets: { ∥ F.Yields.meets output ∥₁ },
 }
 
 /// An act, and the word that it found, where it is a row or a load.
@@ -57,36 +53,34 @@ pub struct Tries {
     pub misses: u64,
 }
 
-/// How far the cell is that a seat belongs to.
-pub enum Stage {
-    /// The memory was found.
-    Laid,
-    /// The future is being put in.
-    Filling,
-    /// The task was spawned.
-    Spawned,
-}
-
 /// What a seat knows: its parties. It is seen by contracts alone, and no value of it is made.
 pub struct View {
-    /// How far the cell is.
-    pub stage: Stage,
     /// The limit of references.
     pub limit: u64,
     /// The parties of the seat; the first one steps.
     pub members: LinkedList<Member>,
 }
 
-/// The rule of the table: there is an interleaving of the machine that ends in the present word.
+/// What a task is spawned with, as the rule of its table knows it.
+#[derive(Drop)]
+pub struct Terms<F> {
+    /// The limit of references.
+    pub limit: u64,
+    /// The future, as contracts see it.
+    pub future: Snapshot<F>,
+}
+
+/// The rule of the table: there is an interleaving of the machine that ends in the present word, and what lies in the place of the work comes from the future that was spawned.
 pub struct Law;
 
-impl<F, T, A> BlockRule<Slot<F, T>, Option<A>, View, u64> for Law {
-    ghost use Rattle.task_steps.specs.Rule.{RuleHolds, laid_view};
+impl<F: Yields, A> BlockRule<Slot<F, Kept<F>>, Option<A>, View, Terms<F>> for Law {
+    ghost use Rattle.task_steps.specs.Rule.{RuleHolds, opening_view};
     ghost use Rattle.task_steps.specs.Shares.{shares_out};
+    ghost use Rattle.task_steps.specs.Values.{values_of};
 
-    ghost holds = { RuleHolds };
+    ghost holds = { λ terms. RuleHolds (values_of F.Yields terms.future.value) terms.limit };
 
-    ghost first = { laid_view };
+    ghost first = { λ terms. opening_view terms.limit };
 
     ghost out = { shares_out };
 }
@@ -95,16 +89,17 @@ impl<F, T, A> BlockRule<Slot<F, T>, Option<A>, View, u64> for Law {
 pub type TaskPlace<F, T, A> = Place<Slot<F, T>, Option<A>>;
 
 /// A share of a task's block: one word, a place for the future and then the output, one for the awaiter, and what all handles see.
-pub type Block<F, T, A, V, B> = Share<Slot<F, T>, Option<A>, View, u64, Law, V, B>;
+pub type Block<F, A, V, B> = Share<Slot<F, Kept<F>>, Option<A>, View, Terms<F>, Law, V, B>;
 
 /// A share that a step may have made or left.
-pub type MaybeBlock<F, T, A, V, B> = MaybeShare<Slot<F, T>, Option<A>, View, u64, Law, V, B>;
+pub type MaybeBlock<F, A, V, B> =
+    MaybeShare<Slot<F, Kept<F>>, Option<A>, View, Terms<F>, Law, V, B>;
 
 /// A hold of a task's block.
-pub type BlockHold<F, T, A, V, B> = Hold<Slot<F, T>, Option<A>, View, u64, Law, V, B>;
+pub type BlockHold<F, A, V, B> = Hold<Slot<F, Kept<F>>, Option<A>, View, Terms<F>, Law, V, B>;
 
 /// What is left of a share for its seats.
-pub type BlockLedger<F, T, A, V, B> = Ledger<Slot<F, T>, Option<A>, View, u64, Law, V, B>;
+pub type BlockLedger<F, A, V, B> = Ledger<Slot<F, Kept<F>>, Option<A>, View, Terms<F>, Law, V, B>;
 
 /// The seat of a task's block.
 pub type TaskSeat<F, T, A> = Seat<Slot<F, T>, Option<A>, View>;
@@ -112,28 +107,19 @@ pub type TaskSeat<F, T, A> = Seat<Slot<F, T>, Option<A>, View>;
 /// The word of a task that was just spawned: scheduled, with its Task, and one reference.
 const OPENING: u64 = SCHEDULED | TASK | REFERENCE;
 
-/// A block with the opening word and two empty places: the shares of the Runnable and of the Task, and its first seat. It is one allocation.
-/// `alloc` is the allocator, `value` what all handles see, and `limit` the limit of references. Where memory is refused, the value is given back.
-pub fn lay<F, T, A, V: Drop, B: Allocator>(
-    alloc: B,
-    value: V,
-    limit: u64,
-) -> Result<
-    (
-        Block<F, T, A, V, B>,
-        Block<F, T, A, V, B>,
-        TaskSeat<F, T, A>,
-    ),
-    V,
->
+/// The memory of a task, one allocation, with what all handles will see. Its future is still to come, so it must be filled.
+pub struct Laid<F, T, A, V, B: Allocator> {
+    whole: Box<Inner<Slot<F, T>, Option<A>, V>, B>,
+    ghost opens: { (whole.value.word ≡ OPENING) × (whole.value.holds ≡ 0) × (whole.value.second ≡ None) },
+}
+
+/// Finds the memory of a task. `alloc` is the allocator, and `value` what all handles will see. Where memory is refused, the value is given back.
+pub fn lay<F, T, A, V: Drop, B: Allocator>(alloc: B, value: V) -> Result<Laid<F, T, A, V, B>, V>
 where
     F: Drop,
     T: Drop,
     A: Drop,
-    requires { limit < 2 ^ 55 }
-    ensures share { IfOk result (λ made. (made.0.key ≡ limit) × (made.0.value ≡ value) × (made.0.heap ≡ alloc)) }
-    ensures other { IfOk result (λ made. (made.1.id ≡ made.0.id) × (made.1.key ≡ limit) × (made.1.value ≡ value) × (made.1.heap ≡ alloc)) }
-    ensures seat { IfOk result (λ made. (made.2.block ≡ made.0.id) × (made.2.me ≡ (laid_view limit, []))) }
+    ensures laid { IfOk result (λ laid. (laid.whole.value.value ≡ value) × (laid.whole.alloc ≡ alloc)) }
     ensures refused { IfErr result (λ back. back ≡ value) }
 {
     let inner = Inner {
@@ -144,16 +130,47 @@ where
         value,
     };
     match Box::new(alloc, inner) {
-        Ok(whole) => Ok(Share::new_pair(Bare::of(whole), &limit)),
+        Ok(whole) => Ok(Laid { whole }),
         Err(AllocFailed { value: inner }) => Err(inner.value),
+    }
+}
+
+impl<F, T, A, V, B: Allocator> Laid<F, T, A, V, B> {
+    /// What all handles will see.
+    pub fn value(&self) -> &V
+        ensures { result.now ≡ self.now.whole.value.value }
+    {
+        &self.whole.value
+    }
+}
+
+impl<F: Yields, A: Drop, V: Drop, B: Allocator> Laid<F, Kept<F>, A, V, B> {
+    /// Puts the future in: the shares of the Runnable and of the Task, and the first seat. `limit` is the limit of references.
+    pub fn fill(
+        self,
+        limit: u64,
+        future: F,
+    ) -> (Block<F, A, V, B>, Block<F, A, V, B>, TaskSeat<F, Kept<F>, A>)
+        requires { limit < 2 ^ 55 }
+        ensures share { (result.0.key.limit ≡ limit) × (result.0.key.future.value ≡ future) × (result.0.value ≡ self.whole.value.value) × (result.0.heap ≡ self.whole.alloc) }
+        ensures other { (result.1.id ≡ result.0.id) × (result.1.key ≡ result.0.key) × (result.1.value ≡ result.0.value) × (result.1.heap ≡ result.0.heap) }
+        ensures seat { (result.2.block ≡ result.0.id) × (result.2.me ≡ (opening_view limit, [])) }
+    {
+        let Laid { mut whole } = self;
+        let terms = Terms {
+            limit,
+            future: Snapshot::of(&future),
+        };
+        whole.first = Slot::Future(future);
+        Share::new_pair(Bare::of(whole), &terms)
     }
 }
 
 /// Polls the future once, where it lies, in a place that has one. `waker` is what the poll is lent.
 pub fn polled<W, F: Future<W>>(slot: &mut Slot<F, Kept<F>>, waker: &W) -> Poll<F::Output>
-    requires { IsFuture slot.old }
+    requires { (f : F) × (slot.old ≡ Slot.Future f) }
     ensures meets { IfReady result F.Yields.meets }
-    ensures once { (f : F) × (g : F) × (slot.old ≡ Slot.Future f) × (slot.new ≡ Slot.Future g) × F.polled f waker.now result g }
+    ensures once { (f : F) × (g : F) × (slot.old ≡ Slot.Future f) × (slot.new ≡ Slot.Future g) × F.polled f waker.now result g × F.Yields.moves f result g }
 {
     match slot {
         Slot::Future(future) => future.poll(waker),
@@ -161,7 +178,7 @@ pub fn polled<W, F: Future<W>>(slot: &mut Slot<F, Kept<F>>, waker: &W) -> Poll<F
     }
 }
 
-/// Lets a seat go that nobody will step with again, and that has no place of the table: it was laid only, or its one party has ended, or was lent for a call and has made one.
+/// Lets a seat go that nobody will step with again, and that has no place of the table: its one party has ended, or was lent for a call and has made one.
 pub fn discard<F, T, A>(seat: TaskSeat<F, T, A>)
     requires spent { is_spent seat.me.0 ≡ true }
     requires places { seat.me.1 ≡ [] }

@@ -7,7 +7,8 @@ ghost use Rattle.task_steps.specs.Beside.{borrowing, without_newest, newest};
 use crate::attempt::Change;
 use crate::script::{Giving, Script};
 use crate::table::{TaskPlace, View};
-use atomic_table::{Play, Split};
+use atomic_table::Split;
+use counted_block::BlockPlay;
 use task_core::acts::Act::{
     DropWaker, GainReference, GiveUpReference, WakeIdle, WakeRunning, WakeScheduled,
 };
@@ -16,8 +17,8 @@ use task_core::word::Word;
 /// Who has a waker by reference gets a party of its own, by a seat of its own.
 pub struct Borrowing;
 
-impl<F, T, A> Play<TaskPlace<F, T, A>, View> for Borrowing {
-    ghost then = { borrowing };
+impl<F, T, A, K> BlockPlay<TaskPlace<F, T, A>, View, K> for Borrowing {
+    ghost then = { λ _. borrowing };
 }
 
 /// A reference is gained, unless the count is at the limit.

@@ -2,11 +2,11 @@
 ghost use Rattle.task_steps.specs.Witness.{witnessed};
 
 use crate::table::{TaskPlace, View};
-use atomic_table::Play;
+use counted_block::BlockPlay;
 
 /// It changes nothing, and tells what the rule says of the party that looks.
 pub struct Witnessing;
 
-impl<F, T, A> Play<TaskPlace<F, T, A>, View> for Witnessing {
-    ghost then = { witnessed };
+impl<F, T, A, K> BlockPlay<TaskPlace<F, T, A>, View, K> for Witnessing {
+    ghost then = { λ _. witnessed };
 }

@@ -3,7 +3,7 @@ ghost use Rattle.std.specs.Prelude.{◌≡◌, IfSome, IfOk, IfErr, None, false}
 ghost use Rattle.task_core.specs.Word.{State};
 ghost use Rattle.task_steps.specs.Attempts.{having_seen, MayTry, HasChanged, HasEnded};
 ghost use Rattle.task_steps.specs.Shares.{MayBring};
-ghost use Rattle.task_cell.specs.Belongs.{IsOf, limit_in};
+ghost use Rattle.task_cell.specs.Belongs.{IsOf, limit_in, values_in};
 
 use super::{Party, Share};
 use std::alloc::Allocator;
@@ -22,12 +22,12 @@ impl<R: Drop, F: Yields, Q: Drop, M: Drop, A: Drop, B: Allocator + Copy> Share<R
         requires cell { IsOf self.now party.old }
         requires limit { (w : State) → P.attempt.ends party.old.seat.me.0.limit w ≡ P.attempt.ends (limit_in self.now) w }
         requires quiet { party.old.seat.me.0 ≡ having_seen None party.old.seat.me.0 }
-        requires allowed { MayTry (limit_in self.now) 2 party.old.seat.id party.old.seat.me P.attempt }
-        requires shares { MayBring (limit_in self.now) party.old.seat.id party.old.seat.me P.attempt }
+        requires allowed { MayTry (values_in self.now) (limit_in self.now) 2 party.old.seat.id party.old.seat.me P.attempt }
+        requires shares { MayBring (values_in self.now) (limit_in self.now) party.old.seat.id party.old.seat.me P.attempt }
         requires none { (row : P.Row) → P.attempt.counts row ≡ false }
         ensures cell { IfSome result (λ found. party.new.seat.block ≡ party.old.seat.block) }
-        ensures changed { IfSome result (λ found. IfOk found (λ row. HasChanged (limit_in self.now) P.attempt row party.old.seat.me party.new.seat.me)) }
-        ensures ended { IfSome result (λ found. IfErr found (λ w. HasEnded (limit_in self.now) P.attempt w party.old.seat.me party.new.seat.me)) }
+        ensures changed { IfSome result (λ found. IfOk found (λ row. HasChanged (values_in self.now) (limit_in self.now) P.attempt row party.old.seat.me party.new.seat.me)) }
+        ensures ended { IfSome result (λ found. IfErr found (λ w. HasEnded (values_in self.now) (limit_in self.now) P.attempt w party.old.seat.me party.new.seat.me)) }
     {
         match self.change_some::<P>(party) {
             TriedOnce::Made(row, maybe) => {

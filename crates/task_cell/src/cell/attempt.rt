@@ -6,7 +6,7 @@ ghost use Rattle.task_core.specs.Word.{HasRoom, State};
 ghost use Rattle.task_steps.specs.declared.table.Tries.{Tries};
 ghost use Rattle.task_steps.specs.Attempts.{Names, having_seen, MayTry, HasChanged, HasEnded, HasSeen, HasTried, IfMade};
 ghost use Rattle.task_steps.specs.Shares.{MayBring, MayGive};
-ghost use Rattle.task_cell.specs.Belongs.{IsOf, IsSame, Leaves, limit_in};
+ghost use Rattle.task_cell.specs.Belongs.{IsOf, IsSame, Leaves, limit_in, values_in};
 
 use super::{MaybeShare, Party, Share};
 use std::alloc::Allocator;
@@ -23,10 +23,10 @@ impl<R: Drop, F: Yields, Q: Drop, M: Drop, A: Drop, B: Allocator + Copy> Share<R
         requires cell { IsOf self.now party.old }
         requires limit { (w : State) → P.attempt.ends party.old.seat.me.0.limit w ≡ P.attempt.ends (limit_in self.now) w }
         requires seen { (t : Option Tries) × (party.old.seat.me.0 ≡ having_seen t party.old.seat.me.0) }
-        requires allowed { MayTry (limit_in self.now) 2 party.old.seat.id party.old.seat.me P.attempt }
+        requires allowed { MayTry (values_in self.now) (limit_in self.now) 2 party.old.seat.id party.old.seat.me P.attempt }
         ensures seat { (party.new.seat.block ≡ party.old.seat.block) × (party.new.seat.id ≡ party.old.seat.id) }
         ensures again { IfOk result (λ w. HasRoom w × HasSeen w party.old.seat.me party.new.seat.me) }
-        ensures ended { IfErr result (λ w. HasEnded (limit_in self.now) P.attempt w party.old.seat.me party.new.seat.me) }
+        ensures ended { IfErr result (λ w. HasEnded (values_in self.now) (limit_in self.now) P.attempt w party.old.seat.me party.new.seat.me) }
     {
         let word = Word::from_bits(self.block.load::<Observing<P>>(&mut party.seat));
         if P::is_end(word, self.cell().limit) {
@@ -47,10 +47,10 @@ impl<R: Drop, F: Yields, Q: Drop, M: Drop, A: Drop, B: Allocator + Copy> Share<R
         requires limit { (w : State) → P.attempt.ends party.old.seat.me.0.limit w ≡ P.attempt.ends (limit_in self.now) w }
         requires room { HasRoom word }
         requires seen { (t : Option Tries) × Names word t × (party.old.seat.me.0 ≡ having_seen t party.old.seat.me.0) }
-        requires allowed { MayTry (limit_in self.now) 2 party.old.seat.id party.old.seat.me P.attempt }
-        requires shares { MayBring (limit_in self.now) party.old.seat.id party.old.seat.me P.attempt }
+        requires allowed { MayTry (values_in self.now) (limit_in self.now) 2 party.old.seat.id party.old.seat.me P.attempt }
+        requires shares { MayBring (values_in self.now) (limit_in self.now) party.old.seat.id party.old.seat.me P.attempt }
         ensures seat { (party.new.seat.block ≡ party.old.seat.block) × (party.new.seat.id ≡ party.old.seat.id) }
-        ensures tried { HasTried (limit_in self.now) P.attempt result party.old.seat.me party.new.seat.me }
+        ensures tried { HasTried (values_in self.now) (limit_in self.now) P.attempt result party.old.seat.me party.new.seat.me }
         ensures share { IfMade result (λ row m. Leaves self.now m (P.attempt.counts row)) (λ k. ⊤) }
     {
         let Some(made) = P::next(word, self.cell().limit) else {
@@ -82,10 +82,10 @@ impl<R: Drop, F: Yields, Q: Drop, M: Drop, A: Drop, B: Allocator + Copy> Share<R
         requires limit { (w : State) → P.attempt.ends party.old.seat.me.0.limit w ≡ P.attempt.ends (limit_in self) w }
         requires room { HasRoom word }
         requires seen { (t : Option Tries) × Names word t × (party.old.seat.me.0 ≡ having_seen t party.old.seat.me.0) }
-        requires allowed { MayTry (limit_in self) 2 party.old.seat.id party.old.seat.me P.attempt }
-        requires shares { MayGive (limit_in self) party.old.seat.id party.old.seat.me P.attempt }
+        requires allowed { MayTry (values_in self) (limit_in self) 2 party.old.seat.id party.old.seat.me P.attempt }
+        requires shares { MayGive (values_in self) (limit_in self) party.old.seat.id party.old.seat.me P.attempt }
         ensures seat { (party.new.seat.block ≡ party.old.seat.block) × (party.new.seat.id ≡ party.old.seat.id) }
-        ensures tried { HasTried (limit_in self) P.attempt result party.old.seat.me party.new.seat.me }
+        ensures tried { HasTried (values_in self) (limit_in self) P.attempt result party.old.seat.me party.new.seat.me }
         ensures share { IfMade result (λ row m. Leaves self m (not (P.attempt.counts row))) (λ k. IsSame self k) }
     {
         let Some(made) = P::next(word, self.cell().limit) else {
@@ -116,10 +116,10 @@ impl<R: Drop, F: Yields, Q: Drop, M: Drop, A: Drop, B: Allocator + Copy> Share<R
         requires limit { (w : State) → P.attempt.ends party.old.seat.me.0.limit w ≡ P.attempt.ends (limit_in self.now) w }
         requires room { HasRoom word }
         requires seen { (t : Option Tries) × Names word t × (party.old.seat.me.0 ≡ having_seen t party.old.seat.me.0) }
-        requires allowed { MayTry (limit_in self.now) 2 party.old.seat.id party.old.seat.me P.attempt }
-        requires shares { MayBring (limit_in self.now) party.old.seat.id party.old.seat.me P.attempt }
+        requires allowed { MayTry (values_in self.now) (limit_in self.now) 2 party.old.seat.id party.old.seat.me P.attempt }
+        requires shares { MayBring (values_in self.now) (limit_in self.now) party.old.seat.id party.old.seat.me P.attempt }
         ensures seat { (party.new.seat.block ≡ party.old.seat.block) × (party.new.seat.id ≡ party.old.seat.id) }
-        ensures tried { HasTried (limit_in self.now) P.attempt result party.old.seat.me party.new.seat.me }
+        ensures tried { HasTried (values_in self.now) (limit_in self.now) P.attempt result party.old.seat.me party.new.seat.me }
         ensures share { IfMade result (λ row m. Leaves self.now m (P.attempt.counts row)) (λ k. ⊤) }
     {
         for _ in 0..u64::MAX {
@@ -141,10 +141,10 @@ impl<R: Drop, F: Yields, Q: Drop, M: Drop, A: Drop, B: Allocator + Copy> Share<R
         requires cell { IsOf self.now party.old }
         requires limit { (w : State) → P.attempt.ends party.old.seat.me.0.limit w ≡ P.attempt.ends (limit_in self.now) w }
         requires quiet { party.old.seat.me.0 ≡ having_seen None party.old.seat.me.0 }
-        requires allowed { MayTry (limit_in self.now) 2 party.old.seat.id party.old.seat.me P.attempt }
-        requires shares { MayBring (limit_in self.now) party.old.seat.id party.old.seat.me P.attempt }
+        requires allowed { MayTry (values_in self.now) (limit_in self.now) 2 party.old.seat.id party.old.seat.me P.attempt }
+        requires shares { MayBring (values_in self.now) (limit_in self.now) party.old.seat.id party.old.seat.me P.attempt }
         ensures cell { party.new.seat.block ≡ party.old.seat.block }
-        ensures tried { HasTried (limit_in self.now) P.attempt result party.old.seat.me party.new.seat.me }
+        ensures tried { HasTried (values_in self.now) (limit_in self.now) P.attempt result party.old.seat.me party.new.seat.me }
         ensures share { IfMade result (λ row m. Leaves self.now m (P.attempt.counts row)) (λ k. ⊤) }
     {
         match self.observe::<P>(party) {
@@ -164,10 +164,10 @@ impl<R: Drop, F: Yields, Q: Drop, M: Drop, A: Drop, B: Allocator + Copy> Share<R
         requires limit { (w : State) → P.attempt.ends party.old.seat.me.0.limit w ≡ P.attempt.ends (limit_in self) w }
         requires room { HasRoom word }
         requires seen { (t : Option Tries) × Names word t × (party.old.seat.me.0 ≡ having_seen t party.old.seat.me.0) }
-        requires allowed { MayTry (limit_in self) 2 party.old.seat.id party.old.seat.me P.attempt }
-        requires shares { MayGive (limit_in self) party.old.seat.id party.old.seat.me P.attempt }
+        requires allowed { MayTry (values_in self) (limit_in self) 2 party.old.seat.id party.old.seat.me P.attempt }
+        requires shares { MayGive (values_in self) (limit_in self) party.old.seat.id party.old.seat.me P.attempt }
         ensures seat { (party.new.seat.block ≡ party.old.seat.block) × (party.new.seat.id ≡ party.old.seat.id) }
-        ensures tried { HasTried (limit_in self) P.attempt result party.old.seat.me party.new.seat.me }
+        ensures tried { HasTried (values_in self) (limit_in self) P.attempt result party.old.seat.me party.new.seat.me }
         ensures share { IfMade result (λ row m. Leaves self m (not (P.attempt.counts row))) (λ k. IsSame self k) }
     {
         let mut share = self;
@@ -193,10 +193,10 @@ impl<R: Drop, F: Yields, Q: Drop, M: Drop, A: Drop, B: Allocator + Copy> Share<R
         requires cell { IsOf self party.old }
         requires limit { (w : State) → P.attempt.ends party.old.seat.me.0.limit w ≡ P.attempt.ends (limit_in self) w }
         requires quiet { party.old.seat.me.0 ≡ having_seen None party.old.seat.me.0 }
-        requires allowed { MayTry (limit_in self) 2 party.old.seat.id party.old.seat.me P.attempt }
-        requires shares { MayGive (limit_in self) party.old.seat.id party.old.seat.me P.attempt }
+        requires allowed { MayTry (values_in self) (limit_in self) 2 party.old.seat.id party.old.seat.me P.attempt }
+        requires shares { MayGive (values_in self) (limit_in self) party.old.seat.id party.old.seat.me P.attempt }
         ensures cell { party.new.seat.block ≡ party.old.seat.block }
-        ensures tried { HasTried (limit_in self) P.attempt result party.old.seat.me party.new.seat.me }
+        ensures tried { HasTried (values_in self) (limit_in self) P.attempt result party.old.seat.me party.new.seat.me }
         ensures share { IfMade result (λ row m. Leaves self m (not (P.attempt.counts row))) (λ k. IsSame self k) }
     {
         match self.observe::<P>(party) {
@@ -226,12 +226,12 @@ impl<R: Wait + Drop + Copy, F: Yields, Q: Drop, M: Drop, A: Drop, B: Allocator +
         requires limit { (w : State) → P.attempt.ends party.old.seat.me.0.limit w ≡ P.attempt.ends (limit_in self.now) w }
         requires room { HasRoom word }
         requires seen { (t : Option Tries) × Names word t × (party.old.seat.me.0 ≡ having_seen t party.old.seat.me.0) }
-        requires allowed { MayTry (limit_in self.now) 2 party.old.seat.id party.old.seat.me P.attempt }
-        requires shares { MayBring (limit_in self.now) party.old.seat.id party.old.seat.me P.attempt }
+        requires allowed { MayTry (values_in self.now) (limit_in self.now) 2 party.old.seat.id party.old.seat.me P.attempt }
+        requires shares { MayBring (values_in self.now) (limit_in self.now) party.old.seat.id party.old.seat.me P.attempt }
         ensures cell { party.new.seat.block ≡ party.old.seat.block }
-        ensures changed { IfOk result (λ r. HasChanged (limit_in self.now) P.attempt r.0 party.old.seat.me party.new.seat.me) }
+        ensures changed { IfOk result (λ r. HasChanged (values_in self.now) (limit_in self.now) P.attempt r.0 party.old.seat.me party.new.seat.me) }
         ensures share { IfOk result (λ r. Leaves self.now r.1 (P.attempt.counts r.0)) }
-        ensures ended { IfErr result (λ w. HasEnded (limit_in self.now) P.attempt w party.old.seat.me party.new.seat.me) }
+        ensures ended { IfErr result (λ w. HasEnded (values_in self.now) (limit_in self.now) P.attempt w party.old.seat.me party.new.seat.me) }
     {
         for _ in self.cell().rt.forever() {
             match self.attempt_some::<P>(party, word) {
@@ -254,12 +254,12 @@ impl<R: Wait + Drop + Copy, F: Yields, Q: Drop, M: Drop, A: Drop, B: Allocator +
         requires limit { (w : State) → P.attempt.ends party.old.seat.me.0.limit w ≡ P.attempt.ends (limit_in self.now) w }
         requires room { HasRoom word }
         requires seen { (t : Option Tries) × Names word t × (party.old.seat.me.0 ≡ having_seen t party.old.seat.me.0) }
-        requires allowed { MayTry (limit_in self.now) 2 party.old.seat.id party.old.seat.me P.attempt }
-        requires shares { MayBring (limit_in self.now) party.old.seat.id party.old.seat.me P.attempt }
+        requires allowed { MayTry (values_in self.now) (limit_in self.now) 2 party.old.seat.id party.old.seat.me P.attempt }
+        requires shares { MayBring (values_in self.now) (limit_in self.now) party.old.seat.id party.old.seat.me P.attempt }
         ensures cell { party.new.seat.block ≡ party.old.seat.block }
-        ensures changed { IfOk result (λ r. HasChanged (limit_in self.now) P.attempt r.0 party.old.seat.me party.new.seat.me) }
+        ensures changed { IfOk result (λ r. HasChanged (values_in self.now) (limit_in self.now) P.attempt r.0 party.old.seat.me party.new.seat.me) }
         ensures share { IfOk result (λ r. Leaves self.now r.1 (P.attempt.counts r.0)) }
-        ensures ended { IfErr result (λ w. HasEnded (limit_in self.now) P.attempt w party.old.seat.me party.new.seat.me) }
+        ensures ended { IfErr result (λ w. HasEnded (values_in self.now) (limit_in self.now) P.attempt w party.old.seat.me party.new.seat.me) }
     {
         match self.try_once::<P>(party, word) {
             TriedOnce::Made(row, maybe) => Ok((row, maybe)),
@@ -277,12 +277,12 @@ impl<R: Wait + Drop + Copy, F: Yields, Q: Drop, M: Drop, A: Drop, B: Allocator +
         requires cell { IsOf self.now party.old }
         requires limit { (w : State) → P.attempt.ends party.old.seat.me.0.limit w ≡ P.attempt.ends (limit_in self.now) w }
         requires quiet { party.old.seat.me.0 ≡ having_seen None party.old.seat.me.0 }
-        requires allowed { MayTry (limit_in self.now) 2 party.old.seat.id party.old.seat.me P.attempt }
-        requires shares { MayBring (limit_in self.now) party.old.seat.id party.old.seat.me P.attempt }
+        requires allowed { MayTry (values_in self.now) (limit_in self.now) 2 party.old.seat.id party.old.seat.me P.attempt }
+        requires shares { MayBring (values_in self.now) (limit_in self.now) party.old.seat.id party.old.seat.me P.attempt }
         ensures cell { party.new.seat.block ≡ party.old.seat.block }
-        ensures changed { IfOk result (λ r. HasChanged (limit_in self.now) P.attempt r.0 party.old.seat.me party.new.seat.me) }
+        ensures changed { IfOk result (λ r. HasChanged (values_in self.now) (limit_in self.now) P.attempt r.0 party.old.seat.me party.new.seat.me) }
         ensures share { IfOk result (λ r. Leaves self.now r.1 (P.attempt.counts r.0)) }
-        ensures ended { IfErr result (λ w. HasEnded (limit_in self.now) P.attempt w party.old.seat.me party.new.seat.me) }
+        ensures ended { IfErr result (λ w. HasEnded (values_in self.now) (limit_in self.now) P.attempt w party.old.seat.me party.new.seat.me) }
     {
         match self.observe::<P>(party) {
             Ok(word) => self.attempt_from::<P>(party, word),
@@ -296,12 +296,12 @@ impl<R: Wait + Drop + Copy, F: Yields, Q: Drop, M: Drop, A: Drop, B: Allocator +
         requires cell { IsOf self.now party.old }
         requires limit { (w : State) → P.attempt.ends party.old.seat.me.0.limit w ≡ P.attempt.ends (limit_in self.now) w }
         requires quiet { party.old.seat.me.0 ≡ having_seen None party.old.seat.me.0 }
-        requires allowed { MayTry (limit_in self.now) 2 party.old.seat.id party.old.seat.me P.attempt }
-        requires shares { MayBring (limit_in self.now) party.old.seat.id party.old.seat.me P.attempt }
+        requires allowed { MayTry (values_in self.now) (limit_in self.now) 2 party.old.seat.id party.old.seat.me P.attempt }
+        requires shares { MayBring (values_in self.now) (limit_in self.now) party.old.seat.id party.old.seat.me P.attempt }
         requires none { (row : P.Row) → P.attempt.counts row ≡ false }
         ensures cell { party.new.seat.block ≡ party.old.seat.block }
-        ensures changed { IfOk result (λ row. HasChanged (limit_in self.now) P.attempt row party.old.seat.me party.new.seat.me) }
-        ensures ended { IfErr result (λ w. HasEnded (limit_in self.now) P.attempt w party.old.seat.me party.new.seat.me) }
+        ensures changed { IfOk result (λ row. HasChanged (values_in self.now) (limit_in self.now) P.attempt row party.old.seat.me party.new.seat.me) }
+        ensures ended { IfErr result (λ w. HasEnded (values_in self.now) (limit_in self.now) P.attempt w party.old.seat.me party.new.seat.me) }
     {
         match self.attempt::<P>(party) {
             Ok((row, maybe)) => {
@@ -324,12 +324,12 @@ impl<R: Wait + Drop + Copy, F: Yields, Q: Drop, M: Drop, A: Drop, B: Allocator +
         requires limit { (w : State) → P.attempt.ends party.old.seat.me.0.limit w ≡ P.attempt.ends (limit_in self) w }
         requires room { HasRoom word }
         requires seen { (t : Option Tries) × Names word t × (party.old.seat.me.0 ≡ having_seen t party.old.seat.me.0) }
-        requires allowed { MayTry (limit_in self) 2 party.old.seat.id party.old.seat.me P.attempt }
-        requires shares { MayGive (limit_in self) party.old.seat.id party.old.seat.me P.attempt }
+        requires allowed { MayTry (values_in self) (limit_in self) 2 party.old.seat.id party.old.seat.me P.attempt }
+        requires shares { MayGive (values_in self) (limit_in self) party.old.seat.id party.old.seat.me P.attempt }
         ensures cell { party.new.seat.block ≡ party.old.seat.block }
-        ensures changed { IfOk result (λ r. HasChanged (limit_in self) P.attempt r.0 party.old.seat.me party.new.seat.me) }
+        ensures changed { IfOk result (λ r. HasChanged (values_in self) (limit_in self) P.attempt r.0 party.old.seat.me party.new.seat.me) }
         ensures share { IfOk result (λ r. Leaves self r.1 (not (P.attempt.counts r.0))) }
-        ensures ended { IfErr result (λ r. HasEnded (limit_in self) P.attempt r.0 party.old.seat.me party.new.seat.me) }
+        ensures ended { IfErr result (λ r. HasEnded (values_in self) (limit_in self) P.attempt r.0 party.old.seat.me party.new.seat.me) }
         ensures kept { IfErr result (λ r. IsSame self r.1) }
     {
         let rt = self.cell().rt;
@@ -358,12 +358,12 @@ impl<R: Wait + Drop + Copy, F: Yields, Q: Drop, M: Drop, A: Drop, B: Allocator +
         requires limit { (w : State) → P.attempt.ends party.old.seat.me.0.limit w ≡ P.attempt.ends (limit_in self) w }
         requires room { HasRoom word }
         requires seen { (t : Option Tries) × Names word t × (party.old.seat.me.0 ≡ having_seen t party.old.seat.me.0) }
-        requires allowed { MayTry (limit_in self) 2 party.old.seat.id party.old.seat.me P.attempt }
-        requires shares { MayGive (limit_in self) party.old.seat.id party.old.seat.me P.attempt }
+        requires allowed { MayTry (values_in self) (limit_in self) 2 party.old.seat.id party.old.seat.me P.attempt }
+        requires shares { MayGive (values_in self) (limit_in self) party.old.seat.id party.old.seat.me P.attempt }
         ensures cell { party.new.seat.block ≡ party.old.seat.block }
-        ensures changed { IfOk result (λ r. HasChanged (limit_in self) P.attempt r.0 party.old.seat.me party.new.seat.me) }
+        ensures changed { IfOk result (λ r. HasChanged (values_in self) (limit_in self) P.attempt r.0 party.old.seat.me party.new.seat.me) }
         ensures share { IfOk result (λ r. Leaves self r.1 (not (P.attempt.counts r.0))) }
-        ensures ended { IfErr result (λ r. HasEnded (limit_in self) P.attempt r.0 party.old.seat.me party.new.seat.me) }
+        ensures ended { IfErr result (λ r. HasEnded (values_in self) (limit_in self) P.attempt r.0 party.old.seat.me party.new.seat.me) }
         ensures kept { IfErr result (λ r. IsSame self r.1) }
     {
         match self.try_giving::<P>(party, word) {
@@ -386,10 +386,10 @@ impl<R: Wait + Drop + Copy, F: Yields, Q: Drop, M: Drop, A: Drop, B: Allocator +
         requires cell { IsOf self party.old }
         requires endless { (limit : _) (w : State) → P.attempt.ends limit w ≡ false }
         requires quiet { party.old.seat.me.0 ≡ having_seen None party.old.seat.me.0 }
-        requires allowed { MayTry (limit_in self) 2 party.old.seat.id party.old.seat.me P.attempt }
-        requires shares { MayGive (limit_in self) party.old.seat.id party.old.seat.me P.attempt }
+        requires allowed { MayTry (values_in self) (limit_in self) 2 party.old.seat.id party.old.seat.me P.attempt }
+        requires shares { MayGive (values_in self) (limit_in self) party.old.seat.id party.old.seat.me P.attempt }
         ensures cell { party.new.seat.block ≡ party.old.seat.block }
-        ensures changed { HasChanged (limit_in self) P.attempt result.0 party.old.seat.me party.new.seat.me }
+        ensures changed { HasChanged (values_in self) (limit_in self) P.attempt result.0 party.old.seat.me party.new.seat.me }
         ensures share { Leaves self result.1 (not (P.attempt.counts result.0)) }
     {
         match self.observe::<P>(party) {

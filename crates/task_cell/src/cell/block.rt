@@ -8,12 +8,12 @@ use task_steps::table::{Block, Kept, MaybeBlock};
 
 /// A share of a cell, as many as its word has handles: a pointer, and no count beside the word. It must be spent: it goes on with the handle that it is for, or ends with a step that gives the handle up.
 pub struct Share<R, F: Yields, Q, M, A, B: Allocator + Copy = Global> {
-    pub(crate) block: Block<F, Kept<F>, A, Cell<R, Q, M, B>, B>,
-    ghost fitting: { Fitting block.key block.value block.heap },
+    pub(crate) block: Block<F, A, Cell<R, Q, M, B>, B>,
+    ghost fitting: { Fitting block.key.limit block.value block.heap },
 }
 
 /// A share that a step may have made or left. It must be spent: the caller looks at the word that the step found, and takes the share or knows that there is none.
 pub struct MaybeShare<R, F: Yields, Q, M, A, B: Allocator + Copy = Global> {
-    pub(crate) maybe: MaybeBlock<F, Kept<F>, A, Cell<R, Q, M, B>, B>,
-    ghost fitting: { Fitting maybe.key maybe.value maybe.heap },
+    pub(crate) maybe: MaybeBlock<F, A, Cell<R, Q, M, B>, B>,
+    ghost fitting: { Fitting maybe.key.limit maybe.value maybe.heap },
 }

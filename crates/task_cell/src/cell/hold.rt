@@ -10,8 +10,8 @@ use task_steps::table::{BlockHold, Kept};
 
 /// It keeps the cell, and makes no step. It must be spent: the last hold of a cell whose shares are gone ends it.
 pub struct CellHold<R, F: Yields, Q, M, A, B: Allocator + Copy> {
-    hold: BlockHold<F, Kept<F>, A, Cell<R, Q, M, B>, B>,
-    ghost fitting: { Fitting hold.key hold.value hold.heap },
+    hold: BlockHold<F, A, Cell<R, Q, M, B>, B>,
+    ghost fitting: { Fitting hold.key.limit hold.value hold.heap },
 }
 
 impl<R: Drop, F: Yields, Q: Drop, M: Drop, A: Drop, B: Allocator + Copy> Share<R, F, Q, M, A, B> {

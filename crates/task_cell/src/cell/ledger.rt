@@ -28,14 +28,14 @@ use task_steps::table::{BlockLedger, Kept};
 /// What notes private acts of the parties of a cell. It has no bytes, and keeps no memory.
 #[derive(Drop)]
 pub struct Ledger<R, F: Yields, Q, M, A, B: Allocator> {
-    pub(crate) ledger: BlockLedger<F, Kept<F>, A, Cell<R, Q, M, B>, B>,
+    pub(crate) ledger: BlockLedger<F, A, Cell<R, Q, M, B>, B>,
 }
 
 impl<R, F: Yields, Q, M, A, B: Allocator> Ledger<R, F, Q, M, A, B> {
     // Notes private acts. It is no step.
     pub(crate) fn note<S: Script>(&self, party: &mut Party<F, Kept<F>, A>)
         requires cell { IsBeside self.now party.old }
-        requires allowed { MayNote self.now.ledger.key S.acts party.old }
+        requires allowed { MayNote (values_of F.Yields self.now.ledger.key.future.value) self.now.ledger.key.limit S.acts party.old }
         ensures cell { party.new.seat.block ≡ party.old.seat.block }
         ensures made { (w : State) × Makes (S.acts w) w party.old.seat.me party.new.seat.me }
     {

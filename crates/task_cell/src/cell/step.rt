@@ -6,7 +6,7 @@ ghost use Rattle.atomic_table.specs.Table.{step};
 ghost use Rattle.task_steps.specs.Steps.{Makes};
 ghost use Rattle.task_steps.specs.Knows.{Knows};
 ghost use Rattle.task_cell.specs.Calls.{BringsShare, EndsShare, KeepsShares, MayWrite, MayMake, MayGiveUp, MaySplit, deeds};
-ghost use Rattle.task_cell.specs.Belongs.{IsOf, Leaves, limit_in};
+ghost use Rattle.task_cell.specs.Belongs.{IsOf, Leaves, limit_in, values_in};
 
 use super::{MaybeShare, Party, Share};
 use atomic_table::Split;
@@ -22,9 +22,9 @@ impl<R: Drop, F: Yields, Q: Drop, M: Drop, A: Drop, B: Allocator + Copy> Share<R
     // Makes a step by a load: the word that it found.
     pub(crate) fn load<S: Script>(&self, party: &mut Party<F, Kept<F>, A>) -> Word
         requires cell { IsOf self.now party.old }
-        requires allowed { MayMake (limit_in self.now) S.acts (λ n. n) party.old }
+        requires allowed { MayMake (values_in self.now) (limit_in self.now) S.acts (λ n. n) party.old }
         ensures cell { party.new.seat.block ≡ party.old.seat.block }
-        ensures made { Makes (S.acts result) result party.old.seat.me party.new.seat.me }
+        ensures made { Makes (values_in self.now) (S.acts result) result party.old.seat.me party.new.seat.me }
         ensures knows { Knows (deeds party.old) result }
     {
         Word::from_bits(self.block.load::<Knowing<S>>(&mut party.seat))
@@ -39,8 +39,8 @@ impl<R: Drop, F: Yields, Q: Drop, M: Drop, A: Drop, B: Allocator + Copy> Share<R
         new: u64,
     ) -> (u64, MaybeShare<R, F, Q, M, A, B>)
         requires cell { seat.old.block ≡ self.now.block.id }
-        requires allowed { MayWrite (limit_in self.now) seat.old.id seat.old.me (λ n. either (n == old) new n) (P.then (step 2 0 old new none) seat.old.me) }
-        requires shares { BringsShare (limit_in self.now) seat.old.id seat.old.me (λ n. either (n == old) new n) (P.counts (step 2 0 old new none)) }
+        requires allowed { MayWrite (values_in self.now) (limit_in self.now) seat.old.id seat.old.me (λ n. either (n == old) new n) (P.then (step 2 0 old new none) seat.old.me) }
+        requires shares { BringsShare (values_in self.now) (limit_in self.now) seat.old.id seat.old.me (λ n. either (n == old) new n) (P.counts (step 2 0 old new none)) }
         ensures seat { (seat.new.block ≡ seat.old.block) × (seat.new.id ≡ seat.old.id) × P.then (step 2 0 old new none) seat.old.me result.0 seat.new.me }
         ensures share { Leaves self.now result.1 (P.counts (step 2 0 old new none) result.0) }
     {
@@ -57,8 +57,8 @@ impl<R: Drop, F: Yields, Q: Drop, M: Drop, A: Drop, B: Allocator + Copy> Share<R
         new: u64,
     ) -> (u64, MaybeShare<R, F, Q, M, A, B>)
         requires cell { seat.old.block ≡ self.block.id }
-        requires allowed { MayWrite (limit_in self) seat.old.id seat.old.me (λ n. either (n == old) new n) (P.then (step 2 0 old new none) seat.old.me) }
-        requires shares { EndsShare (limit_in self) seat.old.id seat.old.me (λ n. either (n == old) new n) (P.counts (step 2 0 old new none)) }
+        requires allowed { MayWrite (values_in self) (limit_in self) seat.old.id seat.old.me (λ n. either (n == old) new n) (P.then (step 2 0 old new none) seat.old.me) }
+        requires shares { EndsShare (values_in self) (limit_in self) seat.old.id seat.old.me (λ n. either (n == old) new n) (P.counts (step 2 0 old new none)) }
         ensures seat { (seat.new.block ≡ seat.old.block) × (seat.new.id ≡ seat.old.id) × P.then (step 2 0 old new none) seat.old.me result.0 seat.new.me }
         ensures share { Leaves self result.1 (not (P.counts (step 2 0 old new none) result.0)) }
     {
@@ -70,9 +70,9 @@ impl<R: Drop, F: Yields, Q: Drop, M: Drop, A: Drop, B: Allocator + Copy> Share<R
     // Makes a step by a write of this number: the word that it found.
     pub(crate) fn swap<S: Script>(&self, party: &mut Party<F, Kept<F>, A>, new: u64) -> Word
         requires cell { IsOf self.now party.old }
-        requires allowed { MayMake (limit_in self.now) S.acts (λ _. new) party.old }
+        requires allowed { MayMake (values_in self.now) (limit_in self.now) S.acts (λ _. new) party.old }
         ensures cell { party.new.seat.block ≡ party.old.seat.block }
-        ensures made { Makes (S.acts result) result party.old.seat.me party.new.seat.me }
+        ensures made { Makes (values_in self.now) (S.acts result) result party.old.seat.me party.new.seat.me }
         ensures knows { Knows (deeds party.old) result }
     {
         Word::from_bits(self.block.swap::<Knowing<S>>(&mut party.seat, new))
@@ -81,9 +81,9 @@ impl<R: Drop, F: Yields, Q: Drop, M: Drop, A: Drop, B: Allocator + Copy> Share<R
     // Makes a step by a fetch that keeps these bits alone: the word that it found.
     pub(crate) fn fetch_and<S: Script>(&self, party: &mut Party<F, Kept<F>, A>, bits: u64) -> Word
         requires cell { IsOf self.now party.old }
-        requires allowed { MayMake (limit_in self.now) S.acts (λ n. bit_and n bits) party.old }
+        requires allowed { MayMake (values_in self.now) (limit_in self.now) S.acts (λ n. bit_and n bits) party.old }
         ensures cell { party.new.seat.block ≡ party.old.seat.block }
-        ensures made { Makes (S.acts result) result party.old.seat.me party.new.seat.me }
+        ensures made { Makes (values_in self.now) (S.acts result) result party.old.seat.me party.new.seat.me }
         ensures knows { Knows (deeds party.old) result }
     {
         Word::from_bits(self.block.fetch_and::<Knowing<S>>(&mut party.seat, bits))
@@ -92,9 +92,9 @@ impl<R: Drop, F: Yields, Q: Drop, M: Drop, A: Drop, B: Allocator + Copy> Share<R
     // Makes a step by a fetch that sets these bits: the word that it found.
     pub(crate) fn fetch_or<S: Script>(&self, party: &mut Party<F, Kept<F>, A>, bits: u64) -> Word
         requires cell { IsOf self.now party.old }
-        requires allowed { MayMake (limit_in self.now) S.acts (λ n. bit_or n bits) party.old }
+        requires allowed { MayMake (values_in self.now) (limit_in self.now) S.acts (λ n. bit_or n bits) party.old }
         ensures cell { party.new.seat.block ≡ party.old.seat.block }
-        ensures made { Makes (S.acts result) result party.old.seat.me party.new.seat.me }
+        ensures made { Makes (values_in self.now) (S.acts result) result party.old.seat.me party.new.seat.me }
         ensures knows { Knows (deeds party.old) result }
     {
         Word::from_bits(self.block.fetch_or::<Knowing<S>>(&mut party.seat, bits))
@@ -107,7 +107,7 @@ impl<R: Drop, F: Yields, Q: Drop, M: Drop, A: Drop, B: Allocator + Copy> Share<R
         party: &mut Party<F, Kept<F>, A>,
     ) -> Party<F, Kept<F>, A>
         requires cell { IsOf self.now party.old }
-        requires allowed { MaySplit (limit_in self.now) S.left S.right party.old }
+        requires allowed { MaySplit (values_in self.now) (limit_in self.now) S.left S.right party.old }
         ensures cell { (party.new.seat.block ≡ party.old.seat.block) × (result.seat.block ≡ party.old.seat.block) }
         ensures left { party.new.seat.me ≡ (S.left party.old.seat.me.0, party.old.seat.me.1) }
         ensures right { result.seat.me ≡ (S.right party.old.seat.me.0, []) }
@@ -123,9 +123,9 @@ impl<R: Drop, F: Yields, Q: Drop, M: Drop, A: Drop, B: Allocator + Copy> Share<R
         k: u64,
     ) -> (Word, MaybeShare<R, F, Q, M, A, B>)
         requires cell { IsOf self party.old }
-        requires allowed { MayGiveUp (limit_in self) S.acts S.gives (λ n. (n + (2 ^ 64 - k)) % 2 ^ 64) party.old }
+        requires allowed { MayGiveUp (values_in self) (limit_in self) S.acts S.gives (λ n. (n + (2 ^ 64 - k)) % 2 ^ 64) party.old }
         ensures cell { party.new.seat.block ≡ party.old.seat.block }
-        ensures made { Makes (S.acts result.0) result.0 party.old.seat.me party.new.seat.me }
+        ensures made { Makes (values_in self) (S.acts result.0) result.0 party.old.seat.me party.new.seat.me }
         ensures knows { Knows (deeds party.old) result.0 }
         ensures share { Leaves self result.1 (not (S.gives result.0)) }
     {

@@ -6,7 +6,7 @@ ghost use Rattle.task_steps.specs.Attempts.{HasChanged};
 ghost use Rattle.task_steps.specs.Standing.{as_lent, as_runnable, as_deliverer};
 ghost use Rattle.task_steps.specs.declared.table.Deed.{Deed};
 ghost use Rattle.task_steps.specs.WakerScripts.{brings_runnable, to_wake};
-ghost use Rattle.task_cell.specs.Belongs.{HasMade, IsOf, Leaves, cell_of, limit_in};
+ghost use Rattle.task_cell.specs.Belongs.{HasMade, IsOf, Leaves, cell_of, limit_in, values_in};
 ghost use Rattle.task_cell.specs.Calls.{Sees, Stands, limit_of, second};
 ghost use Rattle.task_cell.specs.WakerPaths.{TaskWakePath, WakesTask};
 
@@ -41,8 +41,8 @@ impl<R: Drop, F: Yields, Q: Drop, M: Drop, A: Drop, B: Allocator + Copy> Share<R
     ) -> Option<(Self, Party<F, Kept<F>, A>)>
         requires cell { IsOf self.now party.old }
         requires brought { Leaves self.now maybe (brings_runnable found) }
-        requires made { (p : _) × Stands as_lent p × HasChanged (limit_in self.now) to_wake found p.seat.me party.old.seat.me }
-        ensures path { (p : _) → Stands as_lent p → (party.old.seat.block ≡ p.seat.block) → HasChanged (limit_in self.now) to_wake found p.seat.me party.old.seat.me → WakesTask p party.new (second result) }
+        requires made { (p : _) × Stands as_lent p × HasChanged (values_in self.now) (limit_in self.now) to_wake found p.seat.me party.old.seat.me }
+        ensures path { (p : _) → Stands as_lent p → (party.old.seat.block ≡ p.seat.block) → HasChanged (values_in self.now) (limit_in self.now) to_wake found p.seat.me party.old.seat.me → WakesTask p party.new (second result) }
         ensures share { IfSome result (λ woken. cell_of woken.0 ≡ cell_of self.now) }
     {
         match found {

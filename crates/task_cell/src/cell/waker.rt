@@ -26,7 +26,7 @@ pub(crate) struct WakerSeat<R, F: Yields, Q, M, A, B: Allocator + Copy> {
     pub(crate) share: Share<R, F, Q, M, A, B>,
     pub(crate) hold: Hold<F, Kept<F>, A>,
     ghost seated: { block_of hold share.block.id ≡ share.block.id },
-    ghost placed: { me_of hold (waker_me share.block.key) ≡ waker_me share.block.key },
+    ghost placed: { me_of hold (waker_me share.block.key.limit) ≡ waker_me share.block.key.limit },
 }
 
 impl<R, F: Yields, Q, M, A, B: Allocator + Copy> WakerSeat<R, F, Q, M, A, B> {

@@ -2,7 +2,7 @@ use Rattle.task_cell.proofs.Vocabulary.{subst, sym, false, [], List, Deed, Did, 
 use Rattle.counted_block.specs.Blocks.{BlockId}
 use Rattle.task_cell.specs.declared.cell.Cell.{Cell}
 use Rattle.task_cell.specs.declared.cell.Party.{Party}
-use Rattle.task_steps.specs.declared.table.Kept.{Kept}
+use Rattle.task_steps.specs.declared.kept.Kept.{Kept}
 use Rattle.task_cell.specs.Belongs.{cell_of}
 use Rattle.task_cell.proofs.Moved.{stands}
 use Rattle.async_task.proofs.HandleParties.{stands_task}

@@ -1,6 +1,6 @@
 use Rattle.std.proofs.Common.{◌∙◌, ap}
 use Rattle.task_core.specs.declared.traits.TaskPoll.TheVariants.{Ready}
-use Rattle.task_steps.specs.declared.table.Kept.{Kept}
+use Rattle.task_steps.specs.declared.kept.Kept.{Kept}
 use Rattle.async_task.proofs.HandleParties.{stands_task}
 use Rattle.async_task.proofs.HandlePolls.{polls_as}
 use Rattle.async_task.proofs.task.TaskParty.poll.Goals as goal

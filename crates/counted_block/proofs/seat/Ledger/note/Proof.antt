@@ -32,7 +32,7 @@ note_spec 𝓤 𝓛 𝓜 𝓡 wired S₀ W₀ V₀ K₀ Y₀ T₀ A₀ M₀ _ _ 
     let seat_block : ℕ = a.1.0.ref_ptr.0 in let seat_offset : ℕ = a.1.0.ref_ptr.1 in let t : SeatRow.Denot = a.1.0.now in let id : ℕ = t.id in let v : Me (Place S.Denot W.Denot) V.Denot = t.me in
     let Beside : Fml = tokens ((κs.1.1.0, qs.1.1.0) ∷ (κs.1.1.1.0, qs.1.1.1.0) ∷ (κs.1.1.1.1.0, qs.1.1.1.1.0) ∷ (κs.1.1.1.1.1.0, qs.1.1.1.1.1.0) ∷ (κs.1.1.1.1.1.1.0, qs.1.1.1.1.1.1.0) ∷ (κs.1.1.1.1.1.1.1.0, qs.1.1.1.1.1.1.1.0) ∷ (κs.1.1.1.1.1.1.1.1.0, qs.1.1.1.1.1.1.1.1.0) ∷ (κs.1.1.1.1.1.1.1.1.1.0, qs.1.1.1.1.1.1.1.1.1.0) ∷ []) in let holds = g.holds s.key in let P : Fml = content S W R k z x in let J : Fml = block S W V.coded.code holds g.out P z in
     let start : (walk_of 𝓛 promise staying claims).Ghost = ((κs, qs, bounds, a, (vptr self_block self_offset ∷ [], (vptr seat_block seat_offset ∷ [], tt))), gh) in let returned : Val → SProp 𝓤 = (walk_of 𝓛 promise staying claims).post start in
-    let then : ℕ → Me (Place S.Denot W.Denot) V.Denot → Type 0 = m.then (step 2 0 0 0 maybe.none) v in
+    let then : ℕ → Me (Place S.Denot W.Denot) V.Denot → Type 0 = m.then s.key (step 2 0 0 0 maybe.none) v in
     qed 𝓛 (((‵ (flft κ qs.0) ⊛ ‵ (flft κs.1.0 qs.1.0) ⊛ ‵ Beside) ⊛ ‵ (owns (types_at promise.signature.params κs) a start.0.4)) ∷ raw (fact 𝓤 _) ∷ raw (fact 𝓤 _) ∷ raw (fact 𝓤 _) ∷ raw (fact 𝓤 _) ∷ raw (fact 𝓤 _) ∷ raw (fact 𝓤 _) ∷ raw (fact 𝓤 _) ∷ raw (fact 𝓤 _) ∷ given (t.block ≡ z) (‵ ftrue) ∷ given (Notes holds id v then) (‵ ftrue) ∷ []) ∵
     keep ! (9 ∷ 10 ∷ 0 ∷ []) $ learn ! (λ same. drop ! $ learn ! (λ allows. drop ! $ split ! $ split3 ! $ move ! (3 ∷ []) $ fsplit3 ! $ fsplit ! $ move ! (2 ∷ []) $ fsplit3 ! $ keep ! (4 ∷ 6 ∷ 1 ∷ 2 ∷ 7 ∷ 8 ∷ []) $
     enter ! machine.C machine.Λ routine (vptr self_block self_offset ∷ vptr seat_block seat_offset ∷ []) returned $ alloc_all ! (λ l. pass_all ! refl ((tt, tt), ((tt, tt), tt)) $

@@ -28,7 +28,7 @@ load_new_seat_spec 𝓤 𝓛 𝓜 𝓡 wired S₀ W₀ V₀ K₀ Y₀ T₀ A₀ 
     let self_block : ℕ = a.0.ref_ptr.0 in let self_offset : ℕ = a.0.ref_ptr.1 in let κ : Lft = κs.0 in let s : OwnRow.Denot = a.0.now in let p : Ptr = s.at in let x : R.Denot = s.value in let k = h.dealloc_token s.heap in let z : BlockId = s.id in let β : Lft = stay z in let pb : ℕ = z.block in let e : ℕ = z.offset + 0 in
     let Beside : Fml = tokens ((κs.1.0, qs.1.0) ∷ (κs.1.1.0, qs.1.1.0) ∷ (κs.1.1.1.0, qs.1.1.1.0) ∷ (κs.1.1.1.1.0, qs.1.1.1.1.0) ∷ (κs.1.1.1.1.1.0, qs.1.1.1.1.1.0) ∷ (κs.1.1.1.1.1.1.0, qs.1.1.1.1.1.1.0) ∷ (κs.1.1.1.1.1.1.1.0, qs.1.1.1.1.1.1.1.0) ∷ (κs.1.1.1.1.1.1.1.1.0, qs.1.1.1.1.1.1.1.1.0) ∷ []) in let holds = g.holds s.key in let P : Fml = content S W R k z x in let J : Fml = block S W V.coded.code holds g.out P z in
     let start : (walk_of 𝓛 promise staying claims).Ghost = ((κs, qs, bounds, a, (vptr self_block self_offset ∷ [], tt)), gh) in let returned : Val → SProp 𝓤 = (walk_of 𝓛 promise staying claims).post start in
-    let then : ℕ → V.Denot → Type 0 = λ n w. m.then (step 2 0 0 0 maybe.none) (g.first s.key, []) n (w, []) in
+    let then : ℕ → V.Denot → Type 0 = λ n w. m.then s.key (step 2 0 0 0 maybe.none) (g.first s.key, []) n (w, []) in
     qed 𝓛 (((‵ (flft κ qs.0) ⊛ ‵ Beside) ⊛ ‵ (owns (types_at promise.signature.params κs) a start.0.4)) ∷ raw (fact 𝓤 _) ∷ raw (fact 𝓤 _) ∷ raw (fact 𝓤 _) ∷ raw (fact 𝓤 _) ∷ raw (fact 𝓤 _) ∷ raw (fact 𝓤 _) ∷ raw (fact 𝓤 _) ∷ raw (fact 𝓤 _) ∷ given (Enters holds 2 0 then) (‵ ftrue) ∷ []) ∵
     keep ! (9 ∷ 0 ∷ []) $ learn ! (λ asked. drop ! $ split ! $ split ! $ move ! (2 ∷ []) $ fsplit ! $ fsplit ! $ keep ! (1 ∷ 3 ∷ 4 ∷ []) $
     enter ! machine.C machine.Λ routine (vptr self_block self_offset ∷ []) returned $ alloc_all ! (λ l. pass_all ! refl ((tt, tt), tt) $ let here = env routine.locals l in

@@ -30,7 +30,7 @@ part_spec 𝓤 𝓛 𝓜 𝓡 wired S₀ W₀ V₀ K₀ Y₀ T₀ A₀ M₀ _ _ 
     proved 𝓛 promise staying claims 𝓜 𝓡 (Goes-dropped 𝓛 9 self no (λ κs x f. refl), (Goes-ref 𝓛 9 0 tt by_mut, (Goes-dropped 𝓛 9 number yes (λ κs x f. refl), tt))) (#self at_types) routine (code.unfolded 𝓤 H 𝓜 𝓡 wired (S₀, (W₀, (V₀, (K₀, (Y₀, (T₀, (A₀, (M₀, tt)))))))) d dh dd dm dm')
     (λ κs. ((λ w. ptr_and_marker w.at ∷ []), (mut_vals, (uint_vals w64, tt)))) (λ κs. ((λ w vs so. share_told S W V K Y R A g h w.at vs so.0), (mut_Tells (named 0) κs.0 SeatRow, (uint_Tells w64, tt)))) (λ κs qs bounds a gh are.
     let s : OwnRow.Denot = a.0 in let p : Ptr = s.at in let x : R.Denot = s.value in let k = h.dealloc_token s.heap in let z : BlockId = s.id in let w : ℕ = a.1.1.0 in
-    let seat_block : ℕ = a.1.0.ref_ptr.0 in let seat_offset : ℕ = a.1.0.ref_ptr.1 in let t : SeatRow.Denot = a.1.0.now in let id : ℕ = t.id in let v : Me (Place S.Denot W.Denot) V.Denot = t.me in let f : ℕ → ℕ = λ n. (n + (2 ^ 64 - w)) % 2 ^ 64 in let then : ℕ → Me (Place S.Denot W.Denot) V.Denot → Type 0 = m'.then (step 2 0 w 0 maybe.none) v in let counts = m.counts (step 2 0 w 0 maybe.none) in let e : ℕ = z.offset + 0 in
+    let seat_block : ℕ = a.1.0.ref_ptr.0 in let seat_offset : ℕ = a.1.0.ref_ptr.1 in let t : SeatRow.Denot = a.1.0.now in let id : ℕ = t.id in let v : Me (Place S.Denot W.Denot) V.Denot = t.me in let f : ℕ → ℕ = λ n. (n + (2 ^ 64 - w)) % 2 ^ 64 in let then : ℕ → Me (Place S.Denot W.Denot) V.Denot → Type 0 = m'.then s.key (step 2 0 w 0 maybe.none) v in let counts = m.counts (step 2 0 w 0 maybe.none) in let e : ℕ = z.offset + 0 in
     let Beside : Fml = tokens ((κs.1.0, qs.1.0) ∷ (κs.1.1.0, qs.1.1.0) ∷ (κs.1.1.1.0, qs.1.1.1.0) ∷ (κs.1.1.1.1.0, qs.1.1.1.1.0) ∷ (κs.1.1.1.1.1.0, qs.1.1.1.1.1.0) ∷ (κs.1.1.1.1.1.1.0, qs.1.1.1.1.1.1.0) ∷ (κs.1.1.1.1.1.1.1.0, qs.1.1.1.1.1.1.1.0) ∷ (κs.1.1.1.1.1.1.1.1.0, qs.1.1.1.1.1.1.1.1.0) ∷ []) in
     let pb : ℕ = z.block in let P : Fml = content S W R k z x in let holds = g.holds s.key in let J : Fml = block S W V.coded.code holds g.out P z in let Kp : Fml = kept_of S W R V.coded.code holds g.out k z x in
     let start : (walk_of 𝓛 promise staying claims).Ghost = ((κs, qs, bounds, a, (ptr_and_marker p ∷ [], (vptr seat_block seat_offset ∷ [], (vint w64 w ∷ [], tt)))), gh) in let returned : Val → SProp 𝓤 = (walk_of 𝓛 promise staying claims).post start in

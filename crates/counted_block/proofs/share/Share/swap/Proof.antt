@@ -28,7 +28,7 @@ swap_spec 𝓤 𝓛 𝓜 𝓡 wired S₀ W₀ V₀ K₀ Y₀ T₀ A₀ M₀ _ _ 
     proved 𝓛 promise staying claims 𝓜 𝓡 (Goes-dropped 𝓛 10 self yes (λ κs x f. refl), (Goes-ref 𝓛 10 1 tt by_mut, (Goes-dropped 𝓛 10 number yes (λ κs x f. refl), tt))) (#self at_types) routine (code.unfolded 𝓤 H 𝓜 𝓡 wired (S₀, (W₀, (V₀, (K₀, (Y₀, (T₀, (A₀, (M₀, tt)))))))) d dh dd dm)
     (λ κs. (shr_vals, (mut_vals, (uint_vals w64, tt)))) (λ κs. (shr_Tells (named 0) κs.0 OwnRow, (mut_Tells (named 1) κs.1.0 SeatRow, (uint_Tells w64, tt)))) (λ κs qs bounds a gh are.
     let self_block : ℕ = a.0.ref_ptr.0 in let self_offset : ℕ = a.0.ref_ptr.1 in let κ : Lft = κs.0 in let s : OwnRow.Denot = a.0.now in let p : Ptr = s.at in let x : R.Denot = s.value in let k = h.dealloc_token s.heap in let z : BlockId = s.id in let β : Lft = stay z in
-    let seat_block : ℕ = a.1.0.ref_ptr.0 in let seat_offset : ℕ = a.1.0.ref_ptr.1 in let t : SeatRow.Denot = a.1.0.now in let id : ℕ = t.id in let v : Me (Place S.Denot W.Denot) V.Denot = t.me in let w : ℕ = a.1.1.0 in let f : ℕ → ℕ = λ _. w in let then : ℕ → Me (Place S.Denot W.Denot) V.Denot → Type 0 = m.then (step 2 0 w 0 maybe.none) v in
+    let seat_block : ℕ = a.1.0.ref_ptr.0 in let seat_offset : ℕ = a.1.0.ref_ptr.1 in let t : SeatRow.Denot = a.1.0.now in let id : ℕ = t.id in let v : Me (Place S.Denot W.Denot) V.Denot = t.me in let w : ℕ = a.1.1.0 in let f : ℕ → ℕ = λ _. w in let then : ℕ → Me (Place S.Denot W.Denot) V.Denot → Type 0 = m.then s.key (step 2 0 w 0 maybe.none) v in
     let Beside : Fml = tokens ((κs.1.1.0, qs.1.1.0) ∷ (κs.1.1.1.0, qs.1.1.1.0) ∷ (κs.1.1.1.1.0, qs.1.1.1.1.0) ∷ (κs.1.1.1.1.1.0, qs.1.1.1.1.1.0) ∷ (κs.1.1.1.1.1.1.0, qs.1.1.1.1.1.1.0) ∷ (κs.1.1.1.1.1.1.1.0, qs.1.1.1.1.1.1.1.0) ∷ (κs.1.1.1.1.1.1.1.1.0, qs.1.1.1.1.1.1.1.1.0) ∷ (κs.1.1.1.1.1.1.1.1.1.0, qs.1.1.1.1.1.1.1.1.1.0) ∷ []) in
     let pb : ℕ = z.block in let e : ℕ = z.offset + 0 in let P : Fml = content S W R k z x in let holds = g.holds s.key in let J : Fml = block S W V.coded.code holds g.out P z in
     let start : (walk_of 𝓛 promise staying claims).Ghost = ((κs, qs, bounds, a, (vptr self_block self_offset ∷ [], (vptr seat_block seat_offset ∷ [], (vint w64 w ∷ [], tt)))), gh) in let returned : Val → SProp 𝓤 = (walk_of 𝓛 promise staying claims).post start in

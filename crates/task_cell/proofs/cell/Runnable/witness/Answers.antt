@@ -1,5 +1,5 @@
 use Rattle.task_cell.proofs.Vocabulary.{subst, Me, TaskPlace, View, head_of, Witness}
-use Rattle.task_steps.specs.declared.table.Kept.{Kept}
+use Rattle.task_steps.specs.declared.kept.Kept.{Kept}
 use Rattle.task_cell.proofs.cell.Runnable.witness.Goals as goal
 
 pub returns-clause-witness : goal.returns-clause-witness

@@ -1,6 +1,6 @@
 use Rattle.task_cell.proofs.Vocabulary.{[], subst, Me, TaskPlace, View, head_of, Witness}
 use Rattle.task_steps.specs.Standing.{as_lent}
-use Rattle.task_steps.specs.declared.table.Kept.{Kept}
+use Rattle.task_steps.specs.declared.kept.Kept.{Kept}
 use Rattle.task_cell.proofs.WakerMoves.{fresh_stands}
 use Rattle.task_cell.proofs.cell.block.Share.witness_by_reference.Goals as goal
 
