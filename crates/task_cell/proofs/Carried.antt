@@ -4,22 +4,22 @@ use Rattle.task_cell.proofs.Vocabulary.{◌≡◌, ℕ, Bool, true, false, List,
 use Rattle.task_cell.proofs.Vocabulary.{Carries, Carried, DidWith}
 
 module _ {F T A : Type 0} where
-  carries_kept : (a c : Bool) (q : Position) (l l' : List (ℕ × TaskPlace F T A)) → Carries a a c c q l l' → l' ≡ l
+  carries_kept {values = values} : {values : Values F T} (a c : Bool) (q : Position) (l l' : List (ℕ × TaskPlace F T A)) → Carries values a a c c q l l' → l' ≡ l
   carries_kept true true q l l' e = e
   carries_kept true false q l l' e = e
   carries_kept false true q l l' e = e
   carries_kept false false q l l' e = e
 
-  carries_awaiter : (a : Bool) (q : Position) (l l' : List (ℕ × TaskPlace F T A)) → Carries a a false true q l l' → (y : Option A) × Awaits q y × (l' ≡ awaiter_first y l)
+  carries_awaiter {values = values} : {values : Values F T} (a : Bool) (q : Position) (l l' : List (ℕ × TaskPlace F T A)) → Carries values a a false true q l l' → (y : Option A) × Awaits q y × (l' ≡ awaiter_first y l)
   carries_awaiter true q l l' e = e
   carries_awaiter false q l l' e = e
 
-  carries_back : (a : Bool) (q : Position) (l l' : List (ℕ × TaskPlace F T A)) → Carries a a true false q l l' → l' ≡ rest l
+  carries_back {values = values} : {values : Values F T} (a : Bool) (q : Position) (l l' : List (ℕ × TaskPlace F T A)) → Carries values a a true false q l l' → l' ≡ rest l
   carries_back true q l l' e = e
   carries_back false q l l' e = e
 
-  at : {values : Values F T} (p q : Position) (l l' : List (ℕ × TaskPlace F T A)) (a b c d : Bool) → has_work p ≡ a → has_work q ≡ b → owns_awaiter p ≡ c → owns_awaiter q ≡ d → Carried values p q l l' → Carries a b c d q l l'
-  at p q l l' a b c d e f g h x = subst (λ (z : Bool × Bool × Bool × Bool). Carries z.0 z.1 z.2 z.3 q l l') (λ i. (e i, f i, g i, h i)) x
+  at {values = values} : {values : Values F T} (p q : Position) (l l' : List (ℕ × TaskPlace F T A)) (a b c d : Bool) → has_work p ≡ a → has_work q ≡ b → owns_awaiter p ≡ c → owns_awaiter q ≡ d → Carried values p q l l' → Carries values a b c d q l l'
+  at {values = values} p q l l' a b c d e f g h x = subst (λ (z : Bool × Bool × Bool × Bool). Carries values z.0 z.1 z.2 z.3 q l l') (λ i. (e i, f i, g i, h i)) x
 
   pub keeps_places : {values : Values F T} (p q : Position) (l l' : List (ℕ × TaskPlace F T A)) → has_work q ≡ has_work p → owns_awaiter q ≡ owns_awaiter p → Carried values p q l l' → l' ≡ l
   keeps_places p q l l' e f x = carries_kept (has_work p) (owns_awaiter p) q l l' (at p q l l' (has_work p) (has_work p) (owns_awaiter p) (owns_awaiter p) refl e refl f x)

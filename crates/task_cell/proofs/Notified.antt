@@ -56,7 +56,7 @@ module _ {F T A : Type 0} where
       is_so : (b : Bool) → not b ≡ false → b ≡ true
       is_so b e = grind arith
 
-  released : {values : Values F T} (hand : Option ℕ) (way : NotifyingCall) (y : Option A) (held : List (ℕ × TaskPlace F T A)) (p q : Party F T A) (w : State) → StandsWith (Releaser hand way) (awaiter_first y held) p → q.seat.block ≡ p.seat.block
+  released {values = values} : {values : Values F T} (hand : Option ℕ) (way : NotifyingCall) (y : Option A) (held : List (ℕ × TaskPlace F T A)) (p q : Party F T A) (w : State) → StandsWith (Releaser hand way) (awaiter_first y held) p → q.seat.block ≡ p.seat.block
       → Makes values (releasing_awaiter w) w p.seat.me q.seat.me → DidWith (row EndNotify w ∷ []) (after_taking hand way) held p q
   released hand way y held p q w s cell made =
       let m = moved.moved (EndNotify ∷ []) w (Releaser hand way) (awaiter_first y held) p q s made in

@@ -42,7 +42,7 @@ module _ {F T A : Type 0} where
       → (d : Deed) × (y : Slot F T) × DiscardStart d × DidWith (d ∷ act DropFuture ∷ []) (FutureGone DroppedRunnable) (work_first y []) p q × IsFuture values y
   discarded {values = values} p q w s cell made = by w.closed refl made
     where
-      by : (b : Bool) → w.closed ≡ b → Makes values (if b then DiscardClosed ∷ DropFuture ∷ [] else DiscardOpen ∷ DropFuture ∷ []) w p.seat.me q.seat.me
+      by : {values : Values F T} (b : Bool) → w.closed ≡ b → Makes values (if b then DiscardClosed ∷ DropFuture ∷ [] else DiscardOpen ∷ DropFuture ∷ []) w p.seat.me q.seat.me
           → (d : Deed) × (y : Slot F T) × DiscardStart d × DidWith (d ∷ act DropFuture ∷ []) (FutureGone DroppedRunnable) (work_first y []) p q × IsFuture values y
       by true h made = let m = moved.moved (DiscardClosed ∷ DropFuture ∷ []) w (At Runnable) [] p q s made in let y = took_work (At Runnable) (FutureGone DroppedRunnable) [] q.seat.me.1 refl refl m.carried in
           (row DiscardClosed w, y.0, found_closed w h, moved.did p q (row DiscardClosed w ∷ act DropFuture ∷ []) (FutureGone DroppedRunnable) (work_first y.0 []) cell m.viewed y.2, y.1)
@@ -53,7 +53,7 @@ module _ {F T A : Type 0} where
       → GivesUp hand answer p q (not (nat_lt 1 w.references || w.task))
   gave_up {values = values} hand answer p q w s cell made = by (nat_lt 1 w.references || w.task) refl made
     where
-      by : (b : Bool) → (nat_lt 1 w.references || w.task) ≡ b → Makes values (if b then GiveUpReference ∷ [] else GiveUpLastReference ∷ []) w p.seat.me q.seat.me → GivesUp hand answer p q (not b)
+      by : {values : Values F T} (b : Bool) → (nat_lt 1 w.references || w.task) ≡ b → Makes values (if b then GiveUpReference ∷ [] else GiveUpLastReference ∷ []) w p.seat.me q.seat.me → GivesUp hand answer p q (not b)
       by true is made = let m = moved.moved (GiveUpReference ∷ []) w (GivingUp hand answer) [] p q s made in
           not_last w is (moved.did p q (row GiveUpReference w ∷ []) (after_giving_up hand answer) [] cell m.viewed (keeps_places (GivingUp hand answer) (after_giving_up hand answer) [] q.seat.me.1 (given_work hand answer) (given_free hand answer) m.carried))
       by false is made = let m = moved.moved (GiveUpLastReference ∷ []) w (GivingUp hand answer) [] p q s made in let y = took_awaiter (GivingUp hand answer) (Emptier hand answer) [] q.seat.me.1 refl refl refl m.carried in
@@ -89,13 +89,13 @@ module _ {F T A : Type 0} where
   answered_ready held p q w s cell made = let m = moved.moved (AnswerReady ∷ DropFuture ∷ []) w Polling held p q s made in moved.did p q (act AnswerReady ∷ act DropFuture ∷ []) ReadyFutureDropped held cell m.viewed (keeps_places Polling ReadyFutureDropped held q.seat.me.1 refl refl m.carried)
 
   -- what is found closed is closed
-  at_closed : {values : Values F T} (acts : List Act) (w : State) (p q : Party F T A) → w.closed ≡ true → Makes values acts w p.seat.me q.seat.me → Makes values acts (record w { closed = true }) p.seat.me q.seat.me
+  at_closed {values = values} : {values : Values F T} (acts : List Act) (w : State) (p q : Party F T A) → w.closed ≡ true → Makes values acts w p.seat.me q.seat.me → Makes values acts (record w { closed = true }) p.seat.me q.seat.me
   at_closed {values = values} acts w p q e made = subst (λ (v : State). Makes values acts v p.seat.me q.seat.me) (sym (closed_already w e)) made
 
   pub answered_pending : {values : Values F T} (held : List (ℕ × TaskPlace F T A)) (p q : Party F T A) (w : State) → StandsWith Polling held p → q.seat.block ≡ p.seat.block → Makes values (answering_pending w) w p.seat.me q.seat.me → AnswersPending held p q w.closed
   answered_pending {values = values} held p q w s cell made = by w.closed refl made
     where
-      by : (b : Bool) → w.closed ≡ b → Makes values (if b then AnswerPending ∷ DropFuture ∷ [] else AnswerPending ∷ []) w p.seat.me q.seat.me → AnswersPending held p q b
+      by : {values : Values F T} (b : Bool) → w.closed ≡ b → Makes values (if b then AnswerPending ∷ DropFuture ∷ [] else AnswerPending ∷ []) w p.seat.me q.seat.me → AnswersPending held p q b
       by true h made = let v : State = record w { closed = true } in let m = moved.moved (AnswerPending ∷ DropFuture ∷ []) v Polling held p q s (at_closed (AnswerPending ∷ DropFuture ∷ []) w p q h made) in
           clears (moved.did p q (act AnswerPending ∷ act DropFuture ∷ []) PendingFutureDropped held cell m.viewed (keeps_places Polling PendingFutureDropped held q.seat.me.1 refl refl m.carried))
       by false h made = let m = moved.moved (AnswerPending ∷ []) w Polling held p q s made in
@@ -116,7 +116,7 @@ module _ {F T A : Type 0} where
   pub completed : {values : Values F T} (z : Slot F T) (p q : Party F T A) (w : State) → StandsWith ReadyFutureDropped (work_first z []) p → q.seat.block ≡ p.seat.block → Makes values (completing w) w p.seat.me q.seat.me → Completes p q w
   completed {values = values} z p q w s cell made = by w.task w.closed refl refl made
     where
-      by : (b c : Bool) → w.task ≡ b → w.closed ≡ c → Makes values (if b then StoreOutput ∷ Complete ∷ [] else StoreOutput ∷ CompleteDetached ∷ []) w p.seat.me q.seat.me → Completes p q w
+      by : {values : Values F T} (b c : Bool) → w.task ≡ b → w.closed ≡ c → Makes values (if b then StoreOutput ∷ Complete ∷ [] else StoreOutput ∷ CompleteDetached ∷ []) w p.seat.me q.seat.me → Completes p q w
       by true true h k made = let m = moved.moved (StoreOutput ∷ Complete ∷ []) w ReadyFutureDropped (work_first z []) p q s made in let e : (if w.closed then OutputInHand w.awaiter else notifies w.awaiter OfRun) ≡ OutputInHand w.awaiter = ap (λ b. if b then OutputInHand w.awaiter else notifies w.awaiter OfRun) k in
           finds_closed z h k (subst (λ (at : Position). DidWith (act StoreOutput ∷ row Complete w ∷ []) at (work_first z []) p q) e
           (moved.did p q (act StoreOutput ∷ row Complete w ∷ []) (if w.closed then OutputInHand w.awaiter else notifies w.awaiter OfRun) (work_first z []) cell m.viewed
@@ -137,7 +137,7 @@ module _ {F T A : Type 0} where
       unclosed : w.closed ≡ false
       unclosed = not_true w.closed c.applied
 
-      by : (b d : Bool) → w.scheduled ≡ b → (nat_lt 1 w.references || w.task) ≡ d → Makes values (ending_pending (if b then Rescheduled else (if d then Idle else Orphaned))) w p.seat.me q.seat.me
+      by : {values : Values F T} (b d : Bool) → w.scheduled ≡ b → (nat_lt 1 w.references || w.task) ≡ d → Makes values (ending_pending (if b then Rescheduled else (if d then Idle else Orphaned))) w p.seat.me q.seat.me
           → EndsPending (work_first y []) p q (Some (if b then Rescheduled else (if d then Idle else Orphaned)))
       by true d h k made = let m = moved.moved (Reschedule ∷ []) w Pending (work_first y []) p q s made in
           is_rescheduled w unclosed h (moved.did p q (row Reschedule w ∷ []) (Deliverer true (ThenEnds (Ran true))) [] cell m.viewed (gave_work Pending (Deliverer true (ThenEnds (Ran true))) (work_first y []) q.seat.me.1 refl refl m.carried))

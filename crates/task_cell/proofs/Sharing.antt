@@ -22,4 +22,4 @@ module _ {R F Q M A B O : Type 0} {G : Ghosts F O} where
   same_block self share maybe b l e = e.0 ∙ l.cell.0
 
   pub same_limit : (self share : Share R F Q M A B O G) (maybe : MaybeShare R F Q M A B O G) (b : Bool) → Leaves self maybe b → Taken maybe share → limit_in share ≡ limit_in self
-  same_limit self share maybe b l e = e.1 ∙ l.limit
+  same_limit self share maybe b l e = ap (λ k. k.limit) (e.1 ∙ l.terms)

@@ -44,7 +44,7 @@ module _ {F T A : Type 0} where
       w : State
       w = c.word
 
-      made : (b : Bool) → found 0 CancelIdle w ≡ b → Makes values (closing (if b then Idle w.awaiter else Busy w.awaiter)) w p.seat.me q.seat.me → Cancels n p q (Some (if b then Idle w.awaiter else Busy w.awaiter))
+      made : {values : Values F T} (b : Bool) → found 0 CancelIdle w ≡ b → Makes values (closing (if b then Idle w.awaiter else Busy w.awaiter)) w p.seat.me q.seat.me → Cancels n p q (Some (if b then Idle w.awaiter else Busy w.awaiter))
       made true fit m = let x = moved (CancelIdle ∷ []) w (At (Task n)) [] p q s m in
           (w, refl, fit, did p q (row CancelIdle w ∷ []) (Deliverer false (after_cancelling w.awaiter n)) [] cell x.viewed x.carried)
       made false unfit m = let x = moved (CancelBusy ∷ []) w (At (Task n)) [] p q s m in let at : Position = notifies w.awaiter (OfCancel n) in let i = idle_cancel w.awaiter n in
@@ -57,7 +57,7 @@ module _ {F T A : Type 0} where
       w : State
       w = c.word
 
-      made : (a b c : Bool) → found 0 Detach w ≡ a → found 0 DetachLast w ≡ b → found 0 DetachOrphan w ≡ c
+      made : {values : Values F T} (a b c : Bool) → found 0 Detach w ≡ a → found 0 DetachLast w ≡ b → found 0 DetachOrphan w ≡ c
           → Makes values (detaching (if a then Shared else (if b then Last else (if c then Orphaned else Unclaimed)))) w p.seat.me q.seat.me
           → Detaches values p q (if a then Shared else (if b then Last else (if c then Orphaned else Unclaimed)))
       made true b c fit y z m = let x = moved (Detach ∷ EndCall ∷ []) w (At (Task n)) [] p q s m in
@@ -76,7 +76,7 @@ module _ {F T A : Type 0} where
       tests : (k : ℕ) → not (nat_lt 0 k) ≡ nat_eq k 0
       tests k = grind (arith, nat_tests)
 
-      made : (b : Bool) → nat_lt 0 w.references ≡ b → Makes values (if b then Detach ∷ EndCall ∷ [] else DetachLast ∷ []) w q.seat.me r.seat.me → GivesTaskUp p r (not b)
+      made : {values : Values F T} (b : Bool) → nat_lt 0 w.references ≡ b → Makes values (if b then Detach ∷ EndCall ∷ [] else DetachLast ∷ []) w q.seat.me r.seat.me → GivesTaskUp p r (not b)
       made true counted m = let x = moved (Detach ∷ EndCall ∷ []) w Detacher [] q r (stands p q (act DropOutput ∷ []) Detacher [] g) m in
           let path : List Deed = row Detach w ∷ act EndCall ∷ [] in (
             w,

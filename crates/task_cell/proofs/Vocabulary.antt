@@ -68,7 +68,7 @@ pub use Rattle.task_steps.proofs.PollOwed.{finds_notifier, first_free, hands_out
 pub use Rattle.task_steps.proofs.PollOwed.{takes_back, wakes_clone}
 pub use Rattle.task_steps.proofs.RunOwed.{answers_pending, answers_ready, closed_already, completes, discards, due_work, empties, ends_closed, ends_pending}
 pub use Rattle.task_steps.proofs.RunOwed.{given_free, given_work, gives_up}
-pub use Rattle.task_steps.proofs.Seats.{first_more, leaves, retold, splits, staged_more}
+pub use Rattle.task_steps.proofs.Seats.{leaves, retold, splits}
 pub use Rattle.task_steps.proofs.Seen.{left_true, not_true, true_left, true_right}
 pub use Rattle.task_steps.proofs.TaskOwed.{cancels, closed_claimed, detaches, drops_output, finds_over, gives_task_up, idle_cancel, output_left, busy_fits}
 pub use Rattle.task_steps.proofs.TaskOwed.{none_left, over}
@@ -78,7 +78,7 @@ pub use Rattle.task_steps.specs.Attempts.{HasChanged, HasEnded, HasSeen, MayTry,
 pub use Rattle.task_steps.specs.Deeds.{act, after, row}
 pub use Rattle.task_steps.specs.Held.{held}
 pub use Rattle.task_steps.specs.PollScripts.{has_ended, has_output, has_to_wait}
-pub use Rattle.task_steps.specs.Rule.{Explains, IsEmpty, IsFuture, IsOutput, RuleHolds, Running, Waits, filling_view, fresh, has_work, laid_view}
+pub use Rattle.task_steps.specs.Rule.{Explains, IsEmpty, IsFuture, IsOutput, RuleHolds, Running, Waits, fresh, has_work}
 pub use Rattle.task_steps.specs.Rule.{TaskPlace, WorkAtHome, member, opening_at, opening_view, view}
 pub use Rattle.task_steps.specs.Scripts.{dropping_output, releasing_awaiter, taking_awaiter}
 pub use Rattle.task_steps.specs.Standing.{as_deliverer, as_ended, as_runnable, as_task, as_waker, closing_way, handed_over, poll_number, rest_of, way_of}

@@ -33,7 +33,7 @@ module _ {F T A : Type 0} where
   abbrev Beside : List Deed → List Member → Party F T A → Party F T A → Type 0
   Beside path more p q = q.seat.me ≡ (view (limit_of p) (member (At Lent) (after path (deeds p)) ∷ more), [])
 
-  back : {values : Values F T} (w : State) (acts : List Act) (path : List Deed) (more : List Member) (p q : Party F T A) → Stands (At Lent) p → ((slots : Slots) (l : ℕ) (ds : List Deed) → acted w slots acts (view l (member (At Lent) ds ∷ [])) ≡ view l (member (At Lent) (after path ds) ∷ more))
+  back {values = values} : {values : Values F T} (w : State) (acts : List Act) (path : List Deed) (more : List Member) (p q : Party F T A) → Stands (At Lent) p → ((slots : Slots) (l : ℕ) (ds : List Deed) → acted w slots acts (view l (member (At Lent) ds ∷ [])) ≡ view l (member (At Lent) (after path ds) ∷ more))
       → Makes values acts w p.seat.me q.seat.me → Beside path more p q
   back {values = values} w acts path more p q s lead m = let x = moved acts w (At Lent) [] p q s m in let viewed = x.viewed ∙ lead x.slots (limit_of p) (deeds p) in
       let carried = subst (λ (at : Position). Carried values (At Lent) at [] q.seat.me.1) (ap (λ (v : View). (head_of v.members).at) (lead x.slots (limit_of p) (deeds p))) x.carried in
@@ -132,7 +132,7 @@ module _ {F T A : Type 0} where
       w : State
       w = x.word
 
-      by : (a b : Bool) → found 0 WakeIdle w ≡ a → found 0 WakeRunning w ≡ b → let r : Woken = if a then Idle else (if b then Running else Scheduled) in brings_runnable r ≡ false → Makes values (waking_task r) w p.seat.me q.seat.me → WakesTask p q None
+      by : {values : Values F T} (a b : Bool) → found 0 WakeIdle w ≡ a → found 0 WakeRunning w ≡ b → let r : Woken = if a then Idle else (if b then Running else Scheduled) in brings_runnable r ≡ false → Makes values (waking_task r) w p.seat.me q.seat.me → WakesTask p q None
       by true b idle too none m = absurd (cc)
       by false true unfit fit none m = let path : List Deed = row WakeRunning w ∷ act EndCall ∷ [] in
           makes_none path (is_running w fit) (record { cell = cell; is = back w (WakeRunning ∷ EndCall ∷ []) path [] p q s (λ slots l ds. refl) m })
@@ -147,7 +147,7 @@ module _ {F T A : Type 0} where
       w : State
       w = x.word
 
-      by : (a b : Bool) → found 0 WakeIdle w ≡ a → let r : Woken = if a then Idle else (if b then Running else Scheduled) in brings_runnable r ≡ true → Makes values (waking_task r) w p.seat.me q.seat.me
+      by : {values : Values F T} (a b : Bool) → found 0 WakeIdle w ≡ a → let r : Woken = if a then Idle else (if b then Running else Scheduled) in brings_runnable r ≡ true → Makes values (waking_task r) w p.seat.me q.seat.me
           → (found 0 WakeIdle w ≡ true) × Beside (row WakeIdle w ∷ act EndCall ∷ []) (fresh as_deliverer ∷ []) p q
       by true b fit some m = (fit, back w (WakeIdle ∷ EndCall ∷ []) (row WakeIdle w ∷ act EndCall ∷ []) (fresh as_deliverer ∷ []) p q s (λ slots l ds. refl) m)
       by false true unfit some m = absurd (cc)
@@ -162,7 +162,7 @@ module _ {F T A : Type 0} where
   pub drops : {values : Values F T} (w : State) (p q : Party F T A) → Stands as_waker p → q.seat.block ≡ p.seat.block → Makes values (dropping_waker w) w p.seat.me q.seat.me → DropsWaker p q (dropped_by w)
   drops {values = values} w p q s cell m = made (others_left w) (is_open w) refl refl m
     where
-      made : (b o : Bool) → others_left w ≡ b → is_open w ≡ o → Makes values (dropping_as (if b then Shared else (if o then Orphaned else Last))) w p.seat.me q.seat.me
+      made : {values : Values F T} (b o : Bool) → others_left w ≡ b → is_open w ≡ o → Makes values (dropping_as (if b then Shared else (if o then Orphaned else Last))) w p.seat.me q.seat.me
           → DropsWaker p q (if b then Shared else (if o then Orphaned else Last))
       made true o shared now m = let x = moved (DropWaker ∷ EndCall ∷ []) w (At Waker) [] p q s m in
           (w, shared, did p q (row DropWaker w ∷ act EndCall ∷ []) (At Ended) [] cell x.viewed x.carried)

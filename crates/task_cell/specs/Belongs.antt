@@ -1,6 +1,7 @@
 -- Which cell a share, a party and a ledger belong to.
 use Rattle.std.specs.Prelude.{◌≡◌, ℕ, Bool, List, [], ◌∷◌}
 use Rattle.task_core.specs.declared.traits.Yields.{Ghosts}
+use Rattle.task_core.specs.Yielded.{Continued, Yielded}
 use Rattle.counted_block.specs.Blocks.{BlockId}
 use Rattle.task_cell.specs.declared.cell.Cell.{Cell}
 use Rattle.task_cell.specs.declared.cell.Party.{Party}
@@ -30,6 +31,14 @@ module _ {R F Q M A B O : Type 0} {G : Ghosts F O} where
   -- what its rule says of each value in the place of the work
   abbrev pub values_in : Share R F Q M A B O G → Values F (Kept F O G)
   values_in share = values_of G (spawned_in share)
+
+  -- polls of the future by which its task was spawned have made this future of it
+  abbrev pub IsContinued : Share R F Q M A B O G → F → Type 0
+  IsContinued share future = Continued G.moves (spawned_in share) future
+
+  -- .. or have answered this output
+  abbrev pub HasYielded : Share R F Q M A B O G → O → Type 0
+  HasYielded share output = Yielded G.moves (spawned_in share) output
 
   -- another share of the same cell
   abbrev pub IsSame : Share R F Q M A B O G → Share R F Q M A B O G → Type 0

@@ -1,5 +1,5 @@
 -- The paths of a poll of the Task, part by part, and what its steps come to for the party that makes them.
-use Rattle.std.specs.Prelude.{◌≡◌, ℕ, Bool, true, false, List, [], ◌∷◌, ◌++◌, Option, Some, None, Result, Ok, Err, IfOk, ⊤}
+use Rattle.std.specs.Prelude.{◌≡◌, ℕ, Bool, true, false, List, [], ◌∷◌, ◌++◌, Option, Some, None, Result, Ok, Err, IfOk, IfSome, ⊤}
 use Rattle.task_core.specs.Word.{State}
 use Rattle.task_core.specs.declared.traits.TaskPoll.{TaskPoll}
 use Rattle.task_core.specs.declared.traits.TaskPoll.TheVariants.{Pending as Waits, Ready, Refused}
@@ -81,6 +81,12 @@ module _ {A K : Type 0} where
     looks_again : (w : State) (registered path : List Deed) (answer : TaskPoll (Option T)) → has_output w ≡ false → has_ended w ≡ false
         → RegisterPath cloned woken woken_by_ref awaiter registered → AnswerPath woken compared awaiter path answer
         → PollPath cloned woken woken_by_ref compared awaiter (row Look w ∷ registered ++ path) answer
+
+-- the fact holds of the output that a poll of the cell answered, if there is one
+abbrev pub IfHandedOut : {T : Type 0} → TaskPoll (Option T) → (T → Type 0) → Type 0
+IfHandedOut (Ready answer) P = IfSome answer P
+IfHandedOut Waits P = ⊤
+IfHandedOut Refused P = ⊤
 
 -- the fact holds of the output that a poll of the Task answered, if there is one
 abbrev pub IfOutput : {T E : Type 0} → TaskPoll (Result T E) → (T → Type 0) → Type 0

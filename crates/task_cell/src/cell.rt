@@ -159,6 +159,7 @@ impl<
 
 pub use block::{MaybeShare, Share};
 pub use hold::CellHold;
+pub use spawn::LaidCell;
 pub use waker::TaskWaker;
 
 mod alter;

@@ -13,7 +13,7 @@ ghost use Rattle.task_cell.specs.PollPaths.{TakePath, TakePathIf};
 ghost use Rattle.task_steps.specs.Standing.{poll_number, way_of, as_task};
 ghost use Rattle.task_cell.specs.Calls.{StandsWith, Did, DidWith, position, places_of};
 ghost use Rattle.task_steps.specs.Deeds.{act};
-ghost use Rattle.task_cell.specs.Belongs.{IsOf};
+ghost use Rattle.task_cell.specs.Belongs.{IsOf, values_in, HasYielded};
 
 use super::lent_awaiter::LentAwaiter;
 use super::{Party, Share};
@@ -29,8 +29,9 @@ impl<R: Drop, F: Yields, Q: Drop, M: Drop, A: Drop, B: Allocator + Copy> Share<R
     /// Hands the output out, and ends the poll. One load.
     pub fn hand_out(&self, party: &mut Party<F, Kept<F>, A>) -> Held<Kept<F>>
         requires cell { IsOf self.now party.old }
-        requires party { (i : ℕ) × (z : Slot F _) × StandsWith (TookOutput i) (work_first z []) party.old × IsOutput z }
-        ensures { Did (act HandOutOutput ∷ act EndCall ∷ []) (as_task (poll_number (position party.old))) party.old party.new }
+        requires party { (i : ℕ) × (z : Slot F _) × StandsWith (TookOutput i) (work_first z []) party.old × IsOutput (values_in self.now) z }
+        ensures path { Did (act HandOutOutput ∷ act EndCall ∷ []) (as_task (poll_number (position party.old))) party.old party.new }
+        ensures yielded { HasYielded self.now result.value.output }
     {
         let output = take_work(&self.block, &mut party.seat).into_output();
         self.load::<HandingOut>(party);
@@ -91,8 +92,9 @@ impl<R: Wait + Drop + Copy, F: Yields, Q: Drop, M: Drop, A: Wake, B: Allocator +
         found: Word,
     ) -> Held<Kept<F>>
         requires cell { IsOf self.now party.old }
-        requires party { (i : ℕ) × (z : Slot F _) × StandsWith (notifies found.awaiter (OfClaim i)) (work_first z []) party.old × IsOutput z }
-        ensures { (taken : List Deed) × TakePathIf A.woken A.compared awaiter.now.awaiter.now found.awaiter taken × Did (taken ++ (act HandOutOutput ∷ act EndCall ∷ [])) (as_task (poll_number (position party.old))) party.old party.new }
+        requires party { (i : ℕ) × (z : Slot F _) × StandsWith (notifies found.awaiter (OfClaim i)) (work_first z []) party.old × IsOutput (values_in self.now) z }
+        ensures path { (taken : List Deed) × TakePathIf A.woken A.compared awaiter.now.awaiter.now found.awaiter taken × Did (taken ++ (act HandOutOutput ∷ act EndCall ∷ [])) (as_task (poll_number (position party.old))) party.old party.new }
+        ensures yielded { HasYielded self.now result.value.output }
     {
         self.take_awaiter_of(party, awaiter, found);
         self.hand_out(party)

@@ -12,7 +12,7 @@ ghost use Rattle.task_cell.specs.Calls.{Stands, StandsWith, Did, deeds, limit_of
 ghost use Rattle.task_steps.specs.Deeds.{act};
 ghost use Rattle.task_steps.specs.TaskScripts.{ends_task};
 ghost use Rattle.task_steps.specs.Standing.{as_task, as_ended};
-ghost use Rattle.task_cell.specs.Belongs.{IsOf, IsSame, Leaves, cell_of, limit_in};
+ghost use Rattle.task_cell.specs.Belongs.{IsOf, IsSame, Leaves, cell_of, limit_in, values_in};
 
 use super::{MaybeShare, Party, Runnable, Share};
 use std::alloc::Allocator;
@@ -58,7 +58,7 @@ impl<R: Drop, F: Yields, Q: Drop, M: Drop, A: Drop, B: Allocator + Copy> Share<R
     ) -> Result<(Detached, MaybeShare<R, F, Q, M, A, B>), Self>
         requires cell { IsOf self party.old }
         requires party { (n : ℕ) × Stands (as_task n) party.old }
-        ensures path { IfOk result (λ found. Detaches party.old party.new found.0) }
+        ensures path { IfOk result (λ found. Detaches (values_in self) party.old party.new found.0) }
         ensures share { IfOk result (λ found. Leaves self found.1 (not (ends_task found.0))) }
         ensures kept { IfErr result (λ kept. IsSame self kept) }
     {
@@ -85,7 +85,7 @@ impl<R: Wait + Drop + Copy, F: Yields, Q: Drop, M: Drop, A: Drop, B: Allocator +
     ) -> (Detached, MaybeShare<R, F, Q, M, A, B>)
         requires cell { IsOf self party.old }
         requires party { (n : ℕ) × Stands (as_task n) party.old }
-        ensures path { Detaches party.old party.new result.0 }
+        ensures path { Detaches (values_in self) party.old party.new result.0 }
         ensures share { Leaves self result.1 (not (ends_task result.0)) }
     {
         self.give_change::<Detaching>(party)

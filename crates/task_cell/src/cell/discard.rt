@@ -12,7 +12,7 @@ ghost use Rattle.task_steps.specs.Rule.{IsFuture};
 ghost use Rattle.task_steps.specs.Steps.{work_first};
 ghost use Rattle.task_cell.specs.RunPaths.{DiscardStart};
 ghost use Rattle.task_cell.specs.RunCalls.{Discards};
-ghost use Rattle.task_cell.specs.Belongs.{IsOf};
+ghost use Rattle.task_cell.specs.Belongs.{IsOf, values_in};
 
 use super::{Party, Share};
 use std::alloc::Allocator;
@@ -26,7 +26,7 @@ impl<R: Drop, F: Yields, Q: Drop, M: Drop, A: Drop, B: Allocator + Copy> Share<R
     pub fn discard_start(&self, party: &mut Party<F, Kept<F>, A>)
         requires cell { IsOf self.now party.old }
         requires party { Stands as_runnable party.old }
-        ensures { (d : Deed) × (y : Slot F _) × DiscardStart d × DidWith (d ∷ act DropFuture ∷ []) (FutureGone DroppedRunnable) (work_first y []) party.old party.new × IsFuture y }
+        ensures { (d : Deed) × (y : Slot F _) × DiscardStart d × DidWith (d ∷ act DropFuture ∷ []) (FutureGone DroppedRunnable) (work_first y []) party.old party.new × IsFuture (values_in self.now) y }
     {
         self.fetch_or::<Discarding>(party, CLOSED);
     }

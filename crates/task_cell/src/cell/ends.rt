@@ -13,7 +13,7 @@ ghost use Rattle.task_steps.specs.Rule.{IsFuture, TaskPlace};
 ghost use Rattle.task_steps.specs.RunScripts.{ends_run};
 ghost use Rattle.task_steps.specs.Steps.{work_first};
 ghost use Rattle.task_cell.specs.RunCalls.{Completes, AnswersPending, EndsPending, end_of};
-ghost use Rattle.task_cell.specs.Belongs.{IsOf, IsSame, Leaves, cell_of, limit_in};
+ghost use Rattle.task_cell.specs.Belongs.{IsOf, IsSame, Leaves, cell_of, limit_in, values_in, HasYielded};
 
 use super::{MaybeShare, Party, Share};
 use std::alloc::Allocator;
@@ -86,6 +86,7 @@ impl<R: Drop, F: Yields, Q: Drop, M: Drop, A: Drop, B: Allocator + Copy> Share<R
     ) -> Option<Word>
         requires cell { IsOf self.now party.old }
         requires party { StandsWith ReadyFutureDropped (work_first Empty []) party.old }
+        requires yielded { HasYielded self.now output.value.output }
         ensures { IfSome result (λ found. Completes party.old party.new found) }
     {
         self.lay_output(party, output);
@@ -107,7 +108,7 @@ impl<R: Drop, F: Yields, Q: Drop, M: Drop, A: Drop, B: Allocator + Copy> Share<R
     ) -> Result<Result<(PendingEnd, MaybeShare<R, F, Q, M, A, B>), Self>, Self>
         requires cell { IsOf self party.old × (limit_of party.old ≡ limit_in self) }
         requires room { HasRoom word }
-        requires party { (y : Slot F _) × StandsWith Pending (work_first y []) party.old × IsFuture y }
+        requires party { (y : Slot F _) × StandsWith Pending (work_first y []) party.old × IsFuture (values_in self) y }
         ensures path { (y : Slot F _) → StandsWith Pending (work_first y []) party.old → IfOk result (λ tried. EndsPending (work_first y []) party.old party.new (end_of tried)) }
         ensures share { IfOk result (λ tried. IfOk tried (λ r. Leaves self r.1 (not (ends_run r.0)))) }
         ensures kept { IfOk result (λ tried. IfErr tried (λ share. IsSame self share)) }
@@ -132,6 +133,7 @@ impl<R: Wait + Drop + Copy, F: Yields, Q: Drop, M: Drop, A: Drop, B: Allocator +
     pub(crate) fn complete(&self, party: &mut Party<F, Kept<F>, A>, output: Held<Kept<F>>) -> Word
         requires cell { IsOf self.now party.old }
         requires party { StandsWith ReadyFutureDropped (work_first Empty []) party.old }
+        requires yielded { HasYielded self.now output.value.output }
         ensures { Completes party.old party.new result }
     {
         self.lay_output(party, output);
@@ -149,7 +151,7 @@ impl<R: Wait + Drop + Copy, F: Yields, Q: Drop, M: Drop, A: Drop, B: Allocator +
     ) -> Result<(PendingEnd, MaybeShare<R, F, Q, M, A, B>), Self>
         requires cell { IsOf self party.old × (limit_of party.old ≡ limit_in self) }
         requires room { HasRoom word }
-        requires party { (y : Slot F _) × StandsWith Pending (work_first y []) party.old × IsFuture y }
+        requires party { (y : Slot F _) × StandsWith Pending (work_first y []) party.old × IsFuture (values_in self) y }
         ensures path { (y : Slot F _) → StandsWith Pending (work_first y []) party.old → EndsPending (work_first y []) party.old party.new (end_of result) }
         ensures share { IfOk result (λ r. Leaves self r.1 (not (ends_run r.0))) }
         ensures kept { IfErr result (λ share. cell_of share ≡ cell_of self) }

@@ -15,6 +15,7 @@ ghost use Rattle.task_cell.specs.Belongs.{IsBeside};
 ghost use Rattle.task_cell.specs.Calls.{Did, DidWith, MayNote, Stands, StandsWith, places_of, position};
 ghost use Rattle.task_cell.specs.RunCalls.{HasTaken, Wakes};
 ghost use Rattle.task_steps.specs.Rule.{TaskPlace};
+ghost use Rattle.task_steps.specs.Values.{values_of};
 
 use super::{Cell, Party};
 use std::alloc::Allocator;

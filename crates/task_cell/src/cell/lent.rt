@@ -9,7 +9,7 @@ ghost use Rattle.task_steps.specs.Steps.{work_first};
 ghost use Rattle.task_cell.specs.Calls.{StandsWith, limit_of};
 ghost use Rattle.task_cell.specs.Handed.{LentTo};
 ghost use Rattle.task_cell.specs.RunCalls.{NotesAnswer};
-ghost use Rattle.task_cell.specs.Belongs.{IsOf, cell_of, limit_in};
+ghost use Rattle.task_cell.specs.Belongs.{IsOf, cell_of, limit_in, values_in, IsContinued};
 
 use super::waker::WakerSeat;
 use super::{Party, Runnable, Share, TaskWaker};
@@ -39,9 +39,9 @@ impl<R: Wait + Drop + Copy, F: Yields, Q: Drop, M: Drop, A: Wake, B: Allocator +
         Q: Schedule<Runnable<R, F, Q, M, A, X, B>>,
         requires cell { IsOf self party }
         requires limit { limit_of party ≡ limit_in self }
-        requires party { (y : Slot F _) × StandsWith Polling (work_first y []) party × IsFuture y }
+        requires party { (y : Slot F _) × StandsWith Polling (work_first y []) party × IsFuture (values_in self) y }
         ensures share { result.0 ≡ self }
-        ensures once { (f : F) × (g : F) × StandsWith Polling (work_first (Lies f) []) party × NotesAnswer (work_first (Lies g) []) party result.1 result.3 result.2 × LentTo F.polled (cell_of self) around f result.2 g }
+        ensures once { (f : F) × (g : F) × StandsWith Polling (work_first (Lies f) []) party × NotesAnswer (work_first (Lies g) []) party result.1 result.3 result.2 × LentTo F.polled (cell_of self) around f result.2 g × IsContinued self f × F.Yields.moves f result.2 g }
         ensures meets { IfReady result.2 F.Yields.meets }
     {
         let Party { mut seat } = party;

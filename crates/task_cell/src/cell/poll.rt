@@ -6,13 +6,13 @@ ghost use Rattle.task_laws.specs.declared.positions.Position.TheVariants.{Answer
 ghost use Rattle.task_laws.specs.declared.positions.NotifyingCall.TheVariants.{OfPoll};
 ghost use Rattle.task_core.specs.declared.acts.Act.TheVariants.{EndCall};
 ghost use Rattle.task_steps.specs.declared.table.Deed.{Deed};
-ghost use Rattle.task_cell.specs.PollPaths.{PollPath, AnswerPath, TakePath, Looks, LooksAgain};
+ghost use Rattle.task_cell.specs.PollPaths.{PollPath, AnswerPath, TakePath, Looks, LooksAgain, IfHandedOut};
 ghost use Rattle.task_steps.specs.Standing.{poll_number, as_task};
 ghost use Rattle.task_steps.specs.PollScripts.{has_ended as has_ended_word};
 ghost use Rattle.task_steps.specs.Steps.{saw_ended};
 ghost use Rattle.task_cell.specs.Calls.{Stands, Did, position, deeds};
 ghost use Rattle.task_steps.specs.Deeds.{act};
-ghost use Rattle.task_cell.specs.Belongs.{IsOf};
+ghost use Rattle.task_cell.specs.Belongs.{IsOf, values_in, HasYielded};
 
 use super::lent_awaiter::{LentAwaiter, OneWake};
 use super::{Party, Share};
@@ -37,7 +37,7 @@ impl<R: Drop, F: Yields, Q: Drop, M: Drop, A: Drop, B: Allocator + Copy> Share<R
     pub fn look_some(&self, party: &mut Party<F, Kept<F>, A>) -> Option<Result<Word, Word>>
         requires cell { IsOf self.now party.old }
         requires party { (n : ℕ) × Stands (as_task n) party.old }
-        ensures path { IfSome result (λ found. Looks party.old party.new found) }
+        ensures path { IfSome result (λ found. Looks (values_in self.now) party.old party.new found) }
         ensures ended { saw_ended (deeds party.old) ≡ true → IfSome result (λ found. (w : State) × (found ≡ Err w) × (has_ended_word w ≡ true)) }
     {
         self.alter_some::<Looking>(party)
@@ -47,7 +47,7 @@ impl<R: Drop, F: Yields, Q: Drop, M: Drop, A: Drop, B: Allocator + Copy> Share<R
     pub fn look_again_some(&self, party: &mut Party<F, Kept<F>, A>) -> Option<Result<Word, Word>>
         requires cell { IsOf self.now party.old }
         requires party { (i : ℕ) × Stands (LookingAt i) party.old }
-        ensures { IfSome result (λ found. LooksAgain party.old party.new found) }
+        ensures { IfSome result (λ found. LooksAgain (values_in self.now) party.old party.new found) }
     {
         self.alter_some::<LookingAgain>(party)
     }
@@ -65,7 +65,7 @@ impl<R: Wait + Drop + Copy, F: Yields, Q: Drop, M: Drop, A: Drop, B: Allocator +
     fn look(&self, party: &mut Party<F, Kept<F>, A>) -> Result<Word, Word>
         requires cell { IsOf self.now party.old }
         requires party { (n : ℕ) × Stands (as_task n) party.old }
-        ensures path { Looks party.old party.new result }
+        ensures path { Looks (values_in self.now) party.old party.new result }
         ensures ended { saw_ended (deeds party.old) ≡ true → (w : State) × (result ≡ Err w) × (has_ended_word w ≡ true) }
     {
         self.change::<Looking>(party)
@@ -75,7 +75,7 @@ impl<R: Wait + Drop + Copy, F: Yields, Q: Drop, M: Drop, A: Drop, B: Allocator +
     fn look_again(&self, party: &mut Party<F, Kept<F>, A>) -> Result<Word, Word>
         requires cell { IsOf self.now party.old }
         requires party { (i : ℕ) × Stands (LookingAt i) party.old }
-        ensures { LooksAgain party.old party.new result }
+        ensures { LooksAgain (values_in self.now) party.old party.new result }
     {
         self.change::<LookingAgain>(party)
     }
@@ -107,7 +107,8 @@ impl<R: Wait + Drop + Copy, F: Yields, Q: Drop, M: Drop, A: Wake, B: Allocator +
     ) -> TaskPoll<Option<Kept<F>>>
         requires cell { IsOf self.now party.old }
         requires party { (i : ℕ) × Stands (LookingAt i) party.old }
-        ensures { (path : List Deed) × AnswerPath A.woken A.compared awaiter.now.awaiter.now path result × Did path (as_task (poll_number (position party.old))) party.old party.new }
+        ensures path { (path : List Deed) × AnswerPath A.woken A.compared awaiter.now.awaiter.now path result × Did path (as_task (poll_number (position party.old))) party.old party.new }
+        ensures yielded { IfHandedOut result (λ kept. HasYielded self.now kept.output) }
     {
         match self.look_again(party) {
             Ok(found) => {
@@ -134,6 +135,7 @@ impl<R: Wait + Drop + Copy, F: Yields, Q: Drop, M: Drop, A: Wake, B: Allocator +
         requires cell { IsOf self.now party.old }
         requires party { (n : ℕ) × Stands (as_task n) party.old }
         ensures path { (path : List Deed) × PollPath A.cloned A.woken A.woken_by_ref A.compared awaiter.now.awaiter.now path result × Did path (as_task (poll_number (position party.old))) party.old party.new }
+        ensures yielded { IfHandedOut result (λ kept. HasYielded self.now kept.output) }
         ensures ended { saw_ended (deeds party.old) ≡ true → result ≡ TaskPoll.Ready None }
         ensures closed { result ≡ TaskPoll.Ready None → saw_ended (deeds party.new) ≡ true }
     {
@@ -159,13 +161,14 @@ impl<R: Wait + Drop + Copy, F: Yields, Q: Drop, M: Drop, A: Wake, B: Allocator +
     /// Answers with the output, once there is one, or without one, where the task was closed and its future is gone.
     ///
     /// Where there is no answer yet, a clone of the awaiter is registered in the place of the one before, and is woken once there is one.
-    /// The output comes with the fact that it meets what the future's type states.
+    /// The output is one that the spawned future has answered, after polls that answered Pending, and it meets what the future's type states.
     /// A poll registers at most once. It waits for nobody, but tries a step anew where another party changed the word meanwhile.
     /// Once it has answered ready without output, each later poll answers the same.
     pub fn poll(&self, party: &mut Party<F, Kept<F>, A>, awaiter: &A) -> TaskPoll<Option<Kept<F>>>
         requires cell { IsOf self.now party.old }
         requires party { (n : ℕ) × Stands (as_task n) party.old }
         ensures path { (path : List Deed) × PollPath A.cloned A.woken A.woken_by_ref A.compared awaiter.now path result × Did path (as_task (poll_number (position party.old))) party.old party.new }
+        ensures yielded { IfHandedOut result (λ kept. HasYielded self.now kept.output) }
         ensures ended { saw_ended (deeds party.old) ≡ true → result ≡ TaskPoll.Ready None }
         ensures closed { result ≡ TaskPoll.Ready None → saw_ended (deeds party.new) ≡ true }
     {

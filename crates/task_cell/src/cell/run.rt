@@ -15,7 +15,7 @@ ghost use Rattle.task_steps.specs.Standing.{closing_way};
 ghost use Rattle.task_steps.specs.Rule.{IsFuture};
 ghost use Rattle.task_steps.specs.Steps.{work_first};
 ghost use Rattle.task_cell.specs.RunCalls.{Stores, AnswersPending, ClosesPending, Closes, EndsReady, EndsUnready};
-ghost use Rattle.task_cell.specs.Belongs.{IsOf, cell_of, limit_in};
+ghost use Rattle.task_cell.specs.Belongs.{IsOf, cell_of, limit_in, values_in, HasYielded};
 
 use super::{Party, Runnable, Share};
 use std::alloc::Allocator;
@@ -53,6 +53,7 @@ impl<R: Wait + Drop + Copy, F: Yields, Q: Drop, M: Drop, A: Drop, B: Allocator +
     ) -> Word
         requires cell { IsOf self.now party.old }
         requires party { StandsWith ReadyFutureDropped (work_first Empty []) party.old }
+        requires yielded { HasYielded self.now output.value.output }
         ensures { Stores result party.old party.new }
     {
         let found = self.complete(party, output);
@@ -106,6 +107,7 @@ impl<R: Wait + Drop + Copy, F: Yields, Q: Drop, M: Drop, A: Wake, B: Allocator +
     pub(crate) fn finish_ready(self, party: &mut Party<F, Kept<F>, A>, output: Held<Kept<F>>)
         requires cell { IsOf self party.old }
         requires party { (y : Slot F _) × StandsWith ReadyFutureDropped (work_first y []) party.old }
+        requires yielded { HasYielded self output.value.output }
         ensures { (p : _) (y : Slot F _) → DidWith (act AnswerReady ∷ act DropFuture ∷ []) ReadyFutureDropped (work_first y []) p party.old → EndsReady ((a : A) × (r : A.Record) × A.woken a r) p party.new }
     {
         self.take(party).discard();
@@ -124,7 +126,7 @@ impl<R: Wait + Drop + Copy, F: Yields, Q: Drop, M: Drop, A: Wake, B: Allocator +
         Q: Schedule<Runnable<R, F, Q, M, A, X, B>>,
         requires cell { IsOf self party.old × (limit_of party.old ≡ limit_in self) }
         requires room { HasRoom found }
-        requires party { (p : _) × (y : Slot F _) × AnswersPending (work_first y []) p party.old found.closed × IsFuture y }
+        requires party { (p : _) × (y : Slot F _) × AnswersPending (work_first y []) p party.old found.closed × IsFuture (values_in self) y }
         ensures { (p : _) (y : Slot F _) → AnswersPending (work_first y []) p party.old found.closed → EndsUnready ((a : A) × (r : A.Record) × A.woken a r) (HandedOver Q.scheduled (cell_of self) around) result p party.new }
     {
         if found.closed() {

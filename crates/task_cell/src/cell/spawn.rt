@@ -1,51 +1,39 @@
-//! The beginning of a cell.
-ghost use Rattle.std.specs.Prelude.{◌≡◌, ◌^◌, ◌<◌, [], IfOk, IfErr};
-ghost use Rattle.task_steps.specs.Rule.{laid_view};
-ghost use Rattle.task_cell.specs.Belongs.{IsOf, cell_of, limit_in};
-ghost use Rattle.task_cell.specs.Calls.{Stands, deeds, limit_of};
+//! The start of a cell: its memory, and the future that is put in.
+ghost use Rattle.std.specs.Prelude.{◌≡◌, ◌<◌, ◌^◌, [], IfOk, IfErr};
 ghost use Rattle.task_steps.specs.Standing.{as_runnable, as_task};
+ghost use Rattle.task_cell.specs.Belongs.{IsOf, IsSame, limit_in, spawned_in};
+ghost use Rattle.task_cell.specs.Calls.{Stands, deeds, limit_of};
 
 use super::{Cell, Party, Share};
 use std::alloc::Allocator;
 use task_core::Yields;
-use task_steps::places::{Held, put_future};
-use task_steps::spawn::{Filling, Opening, Spawning};
-use task_steps::table::{Kept, TaskSeat, lay};
+use task_steps::spawn::Opening;
+use task_steps::table::{Kept, Laid, lay};
 
-impl<R: Drop, F: Yields, Q: Drop, M: Drop, A: Drop, B: Allocator + Copy> Share<R, F, Q, M, A, B> {
-    /// Puts the future in, by the seat of a cell whose memory was found: the Runnable and the Task.
-    pub fn fill(
-        &self,
-        mut seat: TaskSeat<F, Kept<F>, A>,
-        future: F,
-    ) -> (Party<F, Kept<F>, A>, Party<F, Kept<F>, A>)
-        requires cell { seat.block ≡ self.now.block.id }
-        requires seat { seat.me ≡ (laid_view (limit_in self.now), []) }
-        ensures cell { IsOf self.now result.0 × IsOf self.now result.1 }
-        ensures limit { (limit_of result.0 ≡ limit_in self.now) × (limit_of result.1 ≡ limit_in self.now) }
-        ensures runnable { Stands as_runnable result.0 × (deeds result.0 ≡ []) }
-        ensures task { Stands (as_task 0) result.1 × (deeds result.1 ≡ []) }
-    {
-        self.block.load::<Filling>(&mut seat);
-        put_future(&self.block, &mut seat, Held::new(future)).discard();
-        self.block.load::<Spawning>(&mut seat);
-        let mut runnable = Party { seat };
-        let task = self.split::<Opening>(&mut runnable);
-        (runnable, task)
-    }
+/// The memory of a task, with what its handles will see. It must be filled with the future.
+pub struct LaidCell<R, F: Yields, Q, M, A, B: Allocator + Copy> {
+    laid: Laid<F, Kept<F>, A, Cell<R, Q, M, B>, B>,
+    ghost fitting: { (laid.whole.value.value.limit < 2 ^ 55) × (laid.whole.alloc ≡ laid.whole.value.value.alloc) },
+}
 
-    /// Two shares of a cell, for the Runnable and for the Task, and the seat by which it is filled; or what was given, where memory was refused.
+impl<R: Drop, F: Yields, Q: Drop, M: Drop, A: Drop, B: Allocator + Copy> LaidCell<
+    R,
+    F,
+    Q,
+    M,
+    A,
+    B,
+> {
+    /// Finds the memory of a task; or hands back what was given, where memory was refused. `limit` is the limit of references.
     pub fn make(
         rt: R,
         alloc: B,
         schedule: Q,
         metadata: M,
         limit: u64,
-    ) -> Result<(Self, Self, TaskSeat<F, Kept<F>, A>), (Q, M)>
+    ) -> Result<Self, (Q, M)>
         requires { limit < 2 ^ 55 }
-        ensures shares { IfOk result (λ made. cell_of made.1 ≡ cell_of made.0) }
-        ensures given { IfOk result (λ made. (made.0.block.value.metadata ≡ metadata) × (made.0.block.value.schedule ≡ schedule) × (made.0.block.key ≡ limit)) }
-        ensures seat { IfOk result (λ made. (made.2.block ≡ made.0.block.id) × (made.2.me ≡ (laid_view limit, []))) }
+        ensures given { IfOk result (λ made. let cell = made.laid.whole.value.value in (cell.metadata ≡ metadata) × (cell.schedule ≡ schedule) × (cell.limit ≡ limit)) }
         ensures refused { IfErr result (λ back. (back.0 ≡ schedule) × (back.1 ≡ metadata)) }
     {
         let cell = Cell {
@@ -55,10 +43,8 @@ impl<R: Drop, F: Yields, Q: Drop, M: Drop, A: Drop, B: Allocator + Copy> Share<R
             rt,
             alloc,
         };
-        match lay(alloc, cell, limit) {
-            Ok((first, second, seat)) => {
-                Ok((Share { block: first }, Share { block: second }, seat))
-            }
+        match lay(alloc, cell) {
+            Ok(laid) => Ok(LaidCell { laid }),
             Err(
                 Cell {
                     schedule,
@@ -69,5 +55,40 @@ impl<R: Drop, F: Yields, Q: Drop, M: Drop, A: Drop, B: Allocator + Copy> Share<R
                 },
             ) => Err((schedule, metadata)),
         }
+    }
+
+    /// What the builder was given as metadata.
+    pub fn metadata(&self) -> &M
+        ensures { result.now ≡ self.now.laid.whole.value.value.metadata }
+    {
+        &self.laid.value().metadata
+    }
+
+    /// Puts the future in: the shares and the parties of the Runnable and of the Task.
+    pub fn fill(
+        self,
+        future: F,
+    ) -> (
+        Share<R, F, Q, M, A, B>,
+        Share<R, F, Q, M, A, B>,
+        Party<F, Kept<F>, A>,
+        Party<F, Kept<F>, A>,
+    )
+        ensures same { IsSame result.0 result.1 }
+        ensures given { (result.0.block.value ≡ self.laid.whole.value.value) × (limit_in result.0 ≡ self.laid.whole.value.value.limit) }
+        ensures spawned { spawned_in result.0 ≡ future }
+        ensures cell { IsOf result.0 result.2 × IsOf result.0 result.3 }
+        ensures limit { (limit_of result.2 ≡ limit_in result.0) × (limit_of result.3 ≡ limit_in result.0) }
+        ensures runnable { Stands as_runnable result.2 × (deeds result.2 ≡ []) }
+        ensures task { Stands (as_task 0) result.3 × (deeds result.3 ≡ []) }
+    {
+        let LaidCell { laid } = self;
+        let limit = laid.value().limit;
+        let (first, second, seat) = laid.fill(limit, future);
+        let first = Share { block: first };
+        let second = Share { block: second };
+        let mut runnable = Party { seat };
+        let task = first.split::<Opening>(&mut runnable);
+        (first, second, runnable, task)
     }
 }

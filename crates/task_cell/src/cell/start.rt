@@ -3,7 +3,7 @@ ghost use Rattle.std.specs.Prelude.{◌≡◌, ℕ, ◌∷◌, [], IfSome};
 ghost use Rattle.task_cell.specs.Calls.{Stands};
 ghost use Rattle.task_steps.specs.Standing.{as_runnable};
 ghost use Rattle.task_cell.specs.Starts.{TakesUp};
-ghost use Rattle.task_cell.specs.Belongs.{IsOf};
+ghost use Rattle.task_cell.specs.Belongs.{IsOf, values_in};
 
 use super::{Party, Share};
 use std::alloc::Allocator;
@@ -25,7 +25,7 @@ impl<R: Wait + Drop + Copy, F: Yields, Q: Drop, M: Drop, A: Drop, B: Allocator +
     pub(crate) fn take_up(&self, party: &mut Party<F, Kept<F>, A>) -> bool
         requires cell { IsOf self.now party.old }
         requires party { Stands as_runnable party.old }
-        ensures { TakesUp party.old party.new result }
+        ensures { TakesUp (values_in self.now) party.old party.new result }
     {
         match self.change::<StartingRun>(party) {
             Ok(_) => true,
@@ -39,7 +39,7 @@ impl<R: Drop, F: Yields, Q: Drop, M: Drop, A: Drop, B: Allocator + Copy> Share<R
     pub fn take_up_some(&self, party: &mut Party<F, Kept<F>, A>) -> Option<bool>
         requires cell { IsOf self.now party.old }
         requires party { Stands as_runnable party.old }
-        ensures { IfSome result (λ started. TakesUp party.old party.new started) }
+        ensures { IfSome result (λ started. TakesUp (values_in self.now) party.old party.new started) }
     {
         match self.change_some::<StartingRun>(party) {
             TriedOnce::Made((), maybe) => {

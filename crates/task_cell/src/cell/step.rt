@@ -16,7 +16,7 @@ use task_core::Yields;
 use task_core::word::Word;
 use task_steps::Knowing;
 use task_steps::script::{Giving, Script};
-use task_steps::table::{Kept, TaskPlace, TaskSeat, View};
+use task_steps::table::{Kept, TaskPlace, TaskSeat, Terms, View};
 
 impl<R: Drop, F: Yields, Q: Drop, M: Drop, A: Drop, B: Allocator + Copy> Share<R, F, Q, M, A, B> {
     // Makes a step by a load: the word that it found.
@@ -32,16 +32,16 @@ impl<R: Drop, F: Yields, Q: Drop, M: Drop, A: Drop, B: Allocator + Copy> Share<R
 
     // Exchanges the word by a seat of this cell, which goes on as `P` says: the number found, and the share, where `P` counts it.
     #[inline(always)]
-    pub(crate) fn gain_at<P: CountPlay<TaskPlace<F, Kept<F>, A>, View>>(
+    pub(crate) fn gain_at<P: CountPlay<TaskPlace<F, Kept<F>, A>, View, Terms<F>>>(
         &self,
         seat: &mut TaskSeat<F, Kept<F>, A>,
         old: u64,
         new: u64,
     ) -> (u64, MaybeShare<R, F, Q, M, A, B>)
         requires cell { seat.old.block ≡ self.now.block.id }
-        requires allowed { MayWrite (values_in self.now) (limit_in self.now) seat.old.id seat.old.me (λ n. either (n == old) new n) (P.then (step 2 0 old new none) seat.old.me) }
+        requires allowed { MayWrite (values_in self.now) (limit_in self.now) seat.old.id seat.old.me (λ n. either (n == old) new n) (P.then self.now.block.key (step 2 0 old new none) seat.old.me) }
         requires shares { BringsShare (values_in self.now) (limit_in self.now) seat.old.id seat.old.me (λ n. either (n == old) new n) (P.counts (step 2 0 old new none)) }
-        ensures seat { (seat.new.block ≡ seat.old.block) × (seat.new.id ≡ seat.old.id) × P.then (step 2 0 old new none) seat.old.me result.0 seat.new.me }
+        ensures seat { (seat.new.block ≡ seat.old.block) × (seat.new.id ≡ seat.old.id) × P.then self.now.block.key (step 2 0 old new none) seat.old.me result.0 seat.new.me }
         ensures share { Leaves self.now result.1 (P.counts (step 2 0 old new none) result.0) }
     {
         let (found, maybe) = self.block.gain::<P>(seat, old, new);
@@ -50,16 +50,16 @@ impl<R: Drop, F: Yields, Q: Drop, M: Drop, A: Drop, B: Allocator + Copy> Share<R
 
     // The same of this share, which ends where `P` counts the number found; else it is left.
     #[inline(always)]
-    pub(crate) fn part_at<P: CountPlay<TaskPlace<F, Kept<F>, A>, View>>(
+    pub(crate) fn part_at<P: CountPlay<TaskPlace<F, Kept<F>, A>, View, Terms<F>>>(
         self,
         seat: &mut TaskSeat<F, Kept<F>, A>,
         old: u64,
         new: u64,
     ) -> (u64, MaybeShare<R, F, Q, M, A, B>)
         requires cell { seat.old.block ≡ self.block.id }
-        requires allowed { MayWrite (values_in self) (limit_in self) seat.old.id seat.old.me (λ n. either (n == old) new n) (P.then (step 2 0 old new none) seat.old.me) }
+        requires allowed { MayWrite (values_in self) (limit_in self) seat.old.id seat.old.me (λ n. either (n == old) new n) (P.then self.block.key (step 2 0 old new none) seat.old.me) }
         requires shares { EndsShare (values_in self) (limit_in self) seat.old.id seat.old.me (λ n. either (n == old) new n) (P.counts (step 2 0 old new none)) }
-        ensures seat { (seat.new.block ≡ seat.old.block) × (seat.new.id ≡ seat.old.id) × P.then (step 2 0 old new none) seat.old.me result.0 seat.new.me }
+        ensures seat { (seat.new.block ≡ seat.old.block) × (seat.new.id ≡ seat.old.id) × P.then self.block.key (step 2 0 old new none) seat.old.me result.0 seat.new.me }
         ensures share { Leaves self result.1 (not (P.counts (step 2 0 old new none) result.0)) }
     {
         let Share { block } = self;

@@ -15,7 +15,7 @@ ghost use Rattle.task_steps.specs.Standing.{as_runnable, as_ended};
 ghost use Rattle.task_cell.specs.Starts.{TakesUp};
 ghost use Rattle.task_cell.specs.RunPaths.{RunPath};
 ghost use Rattle.task_cell.specs.RunCalls.{AnswersPending, Closes, EndsReady, EndsUnready};
-ghost use Rattle.task_cell.specs.Belongs.{IsOf, cell_of, limit_in};
+ghost use Rattle.task_cell.specs.Belongs.{IsOf, cell_of, limit_in, values_in, HasYielded};
 
 use super::{Party, Runnable, Share, TaskWaker};
 use std::alloc::Allocator;
@@ -75,7 +75,7 @@ impl<R: Wait + Drop + Copy, F: Yields, Q: Drop, M: Drop, A: Wake, B: Allocator +
     fn begin_run(&self, mut party: Party<F, Kept<F>, A>) -> (Party<F, Kept<F>, A>, bool)
         requires cell { IsOf self.now party }
         requires party { Stands as_runnable party }
-        ensures { TakesUp party result.0 result.1 }
+        ensures { TakesUp (values_in self.now) party result.0 result.1 }
     {
         let started = self.take_up(&mut party);
         (party, started)
@@ -97,6 +97,7 @@ impl<R: Wait + Drop + Copy, F: Yields, Q: Drop, M: Drop, A: Wake, B: Allocator +
     ) -> Party<F, Kept<F>, A>
         requires cell { IsOf self party }
         requires party { (y : Slot F _) × StandsWith ReadyFutureDropped (work_first y []) party }
+        requires yielded { HasYielded self output.value.output }
         ensures { (p : _) (y : Slot F _) → DidWith (act AnswerReady ∷ act DropFuture ∷ []) ReadyFutureDropped (work_first y []) p party → EndsReady ((a : A) × (r : A.Record) × A.woken a r) p result }
     {
         self.finish_ready(&mut party, output);
@@ -113,7 +114,7 @@ impl<R: Wait + Drop + Copy, F: Yields, Q: Drop, M: Drop, A: Wake, B: Allocator +
         Q: Schedule<Runnable<R, F, Q, M, A, X, B>>,
         requires cell { IsOf self party × (limit_of party ≡ limit_in self) }
         requires room { HasRoom found }
-        requires party { (p : _) × (y : Slot F _) × AnswersPending (work_first y []) p party found.closed × IsFuture y }
+        requires party { (p : _) × (y : Slot F _) × AnswersPending (work_first y []) p party found.closed × IsFuture (values_in self) y }
         ensures { (p : _) (y : Slot F _) → AnswersPending (work_first y []) p party found.closed → EndsUnready ((a : A) × (r : A.Record) × A.woken a r) (HandedOver Q.scheduled (cell_of self) around) result.1 p result.0 }
     {
         let woken = self.finish_pending(&mut party, found, around);

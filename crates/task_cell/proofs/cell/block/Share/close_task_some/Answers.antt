@@ -2,10 +2,10 @@ use Rattle.task_cell.proofs.TaskMoves.{may_cancel, closes, looks_over}
 use Rattle.task_cell.proofs.cell.block.Share.close_task_some.Goals as goal
 
 pub change_some-requires-clause-allowed : goal.change_some-requires-clause-allowed
-change_some-requires-clause-allowed g c = let s = c.requires.party in (may_cancel _ _ _ _ c.args.party.now s.0 s.1).0
+change_some-requires-clause-allowed g c = let s = c.requires.party in (may_cancel _ _ _ _ _ c.args.party.now s.0 s.1).0
 
 pub change_some-requires-clause-shares : goal.change_some-requires-clause-shares
-change_some-requires-clause-shares g c = let s = c.requires.party in (may_cancel _ _ _ _ c.args.party.now s.0 s.1).1
+change_some-requires-clause-shares g c = let s = c.requires.party in (may_cancel _ _ _ _ _ c.args.party.now s.0 s.1).1
 
 pub returns-in-Made-clause-path : goal.returns-in-Made-clause-path
 returns-in-Made-clause-path g c = λ n s. closes _ c.args.party.now c.change_some.new.party n c.in-Made.found s c.change_some.ensures.cell c.in-Made.ensures.tried

@@ -9,7 +9,7 @@ returns-in-Scheduled g c = record { path = λ p s cell x. wakes_busy _ c.args.fo
 
 pub split-deliverer-requires-clause-allowed : goal.split-deliverer-requires-clause-allowed
 split-deliverer-requires-clause-allowed g c = let m = c.requires.made in
-    parts_newest _ _ _ _ _ _ _ _ _ [] (ap (λ m. m.0) (beside_deliverer _ c.args.found m.0 c.args.party.now m.1 m.2 (ap brings_runnable c.in-Idle.is)).1)
+    parts_newest _ _ _ _ _ _ _ _ _ _ [] (ap (λ m. m.0) (beside_deliverer _ c.args.found m.0 c.args.party.now m.1 m.2 (ap brings_runnable c.in-Idle.is)).1)
 
 pub returns-in-Idle-clause-path : goal.returns-in-Idle-clause-path
 returns-in-Idle-clause-path g c = λ p s cell x. let t = c.split-deliverer.ensures in

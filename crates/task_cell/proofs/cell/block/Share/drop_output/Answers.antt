@@ -10,7 +10,7 @@ load-requires-clause-cell g c = let s = c.requires.party in (c.take-unclaimed.en
 
 pub load-requires-clause-allowed : goal.load-requires-clause-allowed
 load-requires-clause-allowed g c = let s = c.requires.party in let x = c.take-unclaimed.ensures (OutputInHand s.0) s.1 [] s.2 in
-    may_make _ c.take-unclaimed.new.party (OutputInHand s.0) (work_first Empty []) _ _ (stands c.args.party.now c.take-unclaimed.new.party [] (OutputInHand s.0) (work_first Empty []) x) (drops_output _ _ _ _ s.0 _ _ _ refl) (λ m f. refl)
+    may_make _ c.take-unclaimed.new.party (OutputInHand s.0) (work_first Empty []) _ _ (stands c.args.party.now c.take-unclaimed.new.party [] (OutputInHand s.0) (work_first Empty []) x) (drops_output _ _ _ _ _ s.0 _ _ _ refl) (λ m f. refl)
 
 pub returns : goal.returns
 returns g c = λ due z s. let x = c.take-unclaimed.ensures (OutputInHand due) z [] s in

@@ -10,7 +10,7 @@ load-requires-clause-cell g c = let s = c.requires.party in (c.clear_awaiter.ens
 
 pub load-requires-clause-allowed : goal.load-requires-clause-allowed
 load-requires-clause-allowed g c = let s = c.requires.party in let x = c.clear_awaiter.ensures (Emptier s.0 s.1) s.2 [] s.3 in
-    may_make _ c.clear_awaiter.new.party (Emptier s.0 s.1) (awaiter_first None []) _ _ (stands c.args.party.now c.clear_awaiter.new.party [] (Emptier s.0 s.1) (awaiter_first None []) x) (empties _ _ _ _ s.0 s.1 _ _ _ refl) (λ m f. refl)
+    may_make _ c.clear_awaiter.new.party (Emptier s.0 s.1) (awaiter_first None []) _ _ (stands c.args.party.now c.clear_awaiter.new.party [] (Emptier s.0 s.1) (awaiter_first None []) x) (empties _ _ _ _ _ s.0 s.1 _ _ _ refl) (λ m f. refl)
 
 pub close-word-requires-clause-cell : goal.close-word-requires-clause-cell
 close-word-requires-clause-cell g c = let s = c.requires.party in c.load.ensures.cell ∙ ((c.clear_awaiter.ensures (Emptier s.0 s.1) s.2 [] s.3).cell ∙ c.requires.cell)

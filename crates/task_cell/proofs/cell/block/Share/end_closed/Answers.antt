@@ -9,7 +9,7 @@ fetch_and-requires-clause-cell g c = let s = c.requires.party in (c.take.ensures
 
 pub fetch_and-requires-clause-allowed : goal.fetch_and-requires-clause-allowed
 fetch_and-requires-clause-allowed g c = let s = c.requires.party in let x = c.take.ensures PendingFutureDropped s.0 [] s.1 in
-    may_make _ c.take.new.party PendingFutureDropped (work_first Empty []) _ _ (stands c.args.party.now c.take.new.party [] PendingFutureDropped (work_first Empty []) x) (ends_closed _ _ _ _ _ _ _ refl) (λ m f. refl)
+    may_make _ c.take.new.party PendingFutureDropped (work_first Empty []) _ _ (stands c.args.party.now c.take.new.party [] PendingFutureDropped (work_first Empty []) x) (ends_closed _ _ _ _ _ _ _ _ refl) (λ m f. refl)
 
 pub returns : goal.returns
 returns g c = let s = c.requires.party in let x = c.take.ensures PendingFutureDropped s.0 [] s.1 in let w = c.fetch_and.result in

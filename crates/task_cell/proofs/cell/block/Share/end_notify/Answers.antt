@@ -12,7 +12,7 @@ take_awaiter-awaiter-requires g c = let s = c.requires.party in (c.requires.cell
 pub fetch_and-requires-clause-allowed : goal.fetch_and-requires-clause-allowed
 fetch_and-requires-clause-allowed g c = let s = c.requires.party in let p = c.args.party.now in let e = c.take_awaiter-awaiter.ensures in
     let x = exchanges_awaiter p p (record { seat = c.take_awaiter-awaiter.new.seat }) [] (Releaser s.0 s.1) s.2 (held c.take_awaiter-awaiter.result) None s.3 (at_rest (Releaser s.0 s.1) (awaiter_first s.2 s.3) p p s.4 refl refl) e.0 e.2 e.3 in
-    may_make _ (record { seat = c.take_awaiter-awaiter.new.seat }) (Releaser s.0 s.1) (awaiter_first None s.3) _ _ (stands p (record { seat = c.take_awaiter-awaiter.new.seat }) [] (Releaser s.0 s.1) (awaiter_first None s.3) x.1) (releases_awaiter _ _ _ _ s.0 s.1 _ _ _ refl) (λ m f. refl)
+    may_make _ (record { seat = c.take_awaiter-awaiter.new.seat }) (Releaser s.0 s.1) (awaiter_first None s.3) _ _ (stands p (record { seat = c.take_awaiter-awaiter.new.seat }) [] (Releaser s.0 s.1) (awaiter_first None s.3) x.1) (releases_awaiter _ _ _ _ _ s.0 s.1 _ _ _ refl) (λ m f. refl)
 
 pub returns : goal.returns
 returns g c = λ hand way y places s waits. let p = c.args.party.now in let e = c.take_awaiter-awaiter.ensures in

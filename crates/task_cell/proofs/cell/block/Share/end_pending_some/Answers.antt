@@ -3,10 +3,10 @@ use Rattle.task_cell.proofs.RunGoes.{may_end, ended_pending, found_closed_meanwh
 use Rattle.task_cell.proofs.cell.block.Share.end_pending_some.Goals as goal
 
 pub give_some-requires-clause-allowed : goal.give_some-requires-clause-allowed
-give_some-requires-clause-allowed g c = let s = c.requires.party in (may_end _ _ _ _ c.args.party.now s.0 s.1 s.2).0
+give_some-requires-clause-allowed g c = let s = c.requires.party in (may_end _ _ _ _ _ c.args.party.now s.0 s.1 s.2).0
 
 pub give_some-requires-clause-shares : goal.give_some-requires-clause-shares
-give_some-requires-clause-shares g c = let s = c.requires.party in (may_end _ _ _ _ c.args.party.now s.0 s.1 s.2).1
+give_some-requires-clause-shares g c = let s = c.requires.party in (may_end _ _ _ _ _ c.args.party.now s.0 s.1 s.2).1
 
 pub returns-in-Made-clause-path : goal.returns-in-Made-clause-path
 returns-in-Made-clause-path g c = λ y s. ended_pending _ y c.args.party.now c.give_some.new.party c.in-Made.end s c.in-Made.ensures.seat.0 c.in-Made.ensures.tried

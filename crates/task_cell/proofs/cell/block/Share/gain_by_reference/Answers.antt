@@ -20,14 +20,14 @@ pub record-ended-requires-clause-spent : goal.record-ended-requires-clause-spent
 record-ended-requires-clause-spent g c = (spent_by_gain _ c.borrow-word.result.1 c.gain-gained.new.party _ c.gain-gained.ensures.path).1
 
 pub returns-in-Some-clause-waker : goal.returns-in-Some-clause-waker
-returns-in-Some-clause-waker g c = let p = c.borrow-word.result.1 in let q = c.gain-gained.new.party in let l = c.args.self.now.block.key in
+returns-in-Some-clause-waker g c = let p = c.borrow-word.result.1 in let q = c.gain-gained.new.party in let l = c.args.self.now.block.key.limit in
     gain_gives l _ p q (Some c.in-Some.waker) c.borrow-word.ensures.cell (ap (λ m. m.0.limit) c.borrow-word.ensures.party) (subst (λ made. Gains l p q (second made)) c.in-Some.is c.gain-gained.ensures.path)
 
 pub returns-in-Some-clause-gained : goal.returns-in-Some-clause-gained
-returns-in-Some-clause-gained g c = let p = c.borrow-word.result.1 in let q = c.gain-gained.new.party in let l = c.args.self.now.block.key in
+returns-in-Some-clause-gained g c = let p = c.borrow-word.result.1 in let q = c.gain-gained.new.party in let l = c.args.self.now.block.key.limit in
     was_gained l p q c.record-ended.result.party c.in-Some.waker c.borrow-word.ensures.party (subst (λ made. Gains l p q (second made)) c.in-Some.is c.gain-gained.ensures.path) c.record-ended.ensures c.record-ended.result.witnessed
 
 pub returns-in-None-clause-refused : goal.returns-in-None-clause-refused
-returns-in-None-clause-refused g c = let p = c.borrow-word.result.1 in let q = c.gain-gained.new.party in let l = c.args.self.now.block.key in
+returns-in-None-clause-refused g c = let p = c.borrow-word.result.1 in let q = c.gain-gained.new.party in let l = c.args.self.now.block.key.limit in
     subst (λ made. (path : List Deed) × GainPath l (is_some made) path × HasMade c.args.self.now path c.record-ended.result.party) c.in-None.is
     (gain_made _ l p q c.record-ended.result.party c.gain-gained.result (c.borrow-word.ensures.cell, c.borrow-word.ensures.party) c.record-ended.ensures c.gain-gained.ensures.path)

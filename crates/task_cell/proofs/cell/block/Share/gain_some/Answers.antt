@@ -4,16 +4,16 @@ use Rattle.task_cell.proofs.WakerMoves.{fresh_stands, may_gain, beside_waker, ga
 use Rattle.task_cell.proofs.cell.block.Share.gain_some.Goals as goal
 
 pub attempt_some-requires-clause-allowed : goal.attempt_some-requires-clause-allowed
-attempt_some-requires-clause-allowed g c = let p = c.borrow-word.result.1 in let b = c.borrow-word.ensures in (may_gain _ _ _ _ p (fresh_stands as_lent _ p b.party) (ap (λ m. m.0.limit) b.party)).0
+attempt_some-requires-clause-allowed g c = let p = c.borrow-word.result.1 in let b = c.borrow-word.ensures in (may_gain _ _ _ _ _ p (fresh_stands as_lent _ p b.party) (ap (λ m. m.0.limit) b.party)).0
 
 pub attempt_some-requires-clause-shares : goal.attempt_some-requires-clause-shares
-attempt_some-requires-clause-shares g c = let p = c.borrow-word.result.1 in let b = c.borrow-word.ensures in (may_gain _ _ _ _ p (fresh_stands as_lent _ p b.party) (ap (λ m. m.0.limit) b.party)).1
+attempt_some-requires-clause-shares g c = let p = c.borrow-word.result.1 in let b = c.borrow-word.ensures in (may_gain _ _ _ _ _ p (fresh_stands as_lent _ p b.party) (ap (λ m. m.0.limit) b.party)).1
 
 pub split-gained-requires-clause-cell : goal.split-gained-requires-clause-cell
 split-gained-requires-clause-cell g c = c.in-Made.ensures.seat.0 ∙ c.borrow-word.ensures.cell
 
 pub split-gained-requires-clause-allowed : goal.split-gained-requires-clause-allowed
-split-gained-requires-clause-allowed g c = let p = c.borrow-word.result.1 in parts_newest _ _ _ _ _ _ _ _ _ [] (ap (λ m. m.0) (beside_waker _ _ p c.attempt_some.new.party (fresh_stands as_lent _ p c.borrow-word.ensures.party) c.in-Made.ensures.tried))
+split-gained-requires-clause-allowed g c = let p = c.borrow-word.result.1 in parts_newest _ _ _ _ _ _ _ _ _ _ [] (ap (λ m. m.0) (beside_waker _ _ p c.attempt_some.new.party (fresh_stands as_lent _ p c.borrow-word.ensures.party) c.in-Made.ensures.tried))
 
 pub returns-in-Made-clause-gains : goal.returns-in-Made-clause-gains
 returns-in-Made-clause-gains g c = let p = c.borrow-word.result.1 in let b = c.borrow-word.ensures in let e = c.in-Made.ensures in let s = c.split-gained.ensures in

@@ -2,10 +2,10 @@ use Rattle.task_cell.proofs.TaskMoves.{may_detach, gives_up}
 use Rattle.task_cell.proofs.cell.block.Share.give_task_up_some.Goals as goal
 
 pub give_change_some-requires-clause-allowed : goal.give_change_some-requires-clause-allowed
-give_change_some-requires-clause-allowed g c = let s = c.requires.party in (may_detach _ _ _ _ c.args.party.now s.0 s.1).0
+give_change_some-requires-clause-allowed g c = let s = c.requires.party in (may_detach _ _ _ _ _ c.args.party.now s.0 s.1).0
 
 pub give_change_some-requires-clause-shares : goal.give_change_some-requires-clause-shares
-give_change_some-requires-clause-shares g c = let s = c.requires.party in (may_detach _ _ _ _ c.args.party.now s.0 s.1).1
+give_change_some-requires-clause-shares g c = let s = c.requires.party in (may_detach _ _ _ _ _ c.args.party.now s.0 s.1).1
 
 pub returns-in-Made-clause-path : goal.returns-in-Made-clause-path
 returns-in-Made-clause-path g c = let s = c.requires.party in gives_up _ c.args.party.now c.give_change_some.new.party s.0 c.in-Made.found s.1 c.give_change_some.ensures.cell c.in-Made.ensures.tried

@@ -3,10 +3,10 @@ use Rattle.task_cell.proofs.PollTried.{tried_look, tried_ended}
 use Rattle.task_cell.proofs.cell.block.Share.look_some.Goals as goal
 
 pub alter_some-requires-clause-allowed : goal.alter_some-requires-clause-allowed
-alter_some-requires-clause-allowed g c = let s = c.requires.party in (may_look _ _ _ _ c.args.party.now s.0 s.1).0
+alter_some-requires-clause-allowed g c = let s = c.requires.party in (may_look _ _ _ _ _ c.args.party.now s.0 s.1).0
 
 pub alter_some-requires-clause-shares : goal.alter_some-requires-clause-shares
-alter_some-requires-clause-shares g c = let s = c.requires.party in (may_look _ _ _ _ c.args.party.now s.0 s.1).1
+alter_some-requires-clause-shares g c = let s = c.requires.party in (may_look _ _ _ _ _ c.args.party.now s.0 s.1).1
 
 pub returns-clause-path : goal.returns-clause-path
 returns-clause-path g c = let s = c.requires.party in let e = c.alter_some.ensures in tried_look _ s.0 c.alter_some.result c.args.party.now c.alter_some.new.party s.1 e.cell e.changed e.ended

@@ -3,4 +3,4 @@ use Rattle.task_cell.proofs.Steps.{may_make}
 use Rattle.task_cell.proofs.cell.block.Share.note_output_dropped.Goals as goal
 
 pub load-requires-clause-allowed : goal.load-requires-clause-allowed
-load-requires-clause-allowed g c = may_make _ c.args.party.now OutputCloser (work_first Empty []) _ _ c.requires.party (drops_output _ _ _ _ _ _ _ refl) (λ m f. refl)
+load-requires-clause-allowed g c = may_make _ c.args.party.now OutputCloser (work_first Empty []) _ _ c.requires.party (drops_output _ _ _ _ _ _ _ _ refl) (λ m f. refl)

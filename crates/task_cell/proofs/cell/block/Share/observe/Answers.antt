@@ -5,12 +5,12 @@ use Rattle.task_core.specs.Word.{HasRoom}
 
 pub load-requires-clause-allowed : goal.load-requires-clause-allowed
 load-requires-clause-allowed g c = let s = c.requires.seen in let self = c.args.self.now in
-    may_load self.block.key _ _ _ _ _ _ g.P.Change.attempt (seen_word s.0) refl refl refl (seeing_any c.args.party.now.seat.me s.0 s.1) c.requires.allowed
+    may_load self.block.key.limit _ _ _ _ _ _ g.P.Change.attempt (seen_word s.0) refl refl refl (seeing_any c.args.party.now.seat.me s.0 s.1) c.requires.allowed
 
 pub returns-then-is_end-clause-ended : goal.returns-then-is_end-clause-ended
 returns-then-is_end-clause-ended g c = let s = c.requires.seen in let self = c.args.self.now in let seeing = seeing_any c.args.party.now.seat.me s.0 s.1 in let e = c.load.ensures in let limit = ap (λ x. x.limit) c.cell.ensures ∙ sym self.fitting.0 in let w = c.from_bits-word.result in
     let over = sym (c.is_end.ensures ∙ ap (λ l. g.P.Change.attempt.ends l w) limit) ∙ c.if-is_end.true in
-    ended self.block.key _ g.P.Change.attempt (seen_word s.0) w _ _ _ seeing c.from_bits-word.ensures over
+    ended self.block.key.limit _ g.P.Change.attempt (seen_word s.0) w _ _ _ seeing c.from_bits-word.ensures over
     (e.2.0 (ends_at g.P.Change.attempt.ends _ _ (seen_word s.0) _ _ _ _ c.requires.limit seeing c.from_bits-word.ensures over)) e.2.2
 
 pub returns-else-is_end-clause-again : goal.returns-else-is_end-clause-again

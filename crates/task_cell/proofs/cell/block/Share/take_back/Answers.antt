@@ -12,7 +12,7 @@ take_awaiter-requires g c = let s = c.requires.party in (c.requires.cell, (Some 
 pub fetch_and-requires-clause-allowed : goal.fetch_and-requires-clause-allowed
 fetch_and-requires-clause-allowed g c = let s = c.requires.party in let p = c.args.party.now in let e = c.take_awaiter.ensures in
     let x = exchanges_awaiter p p (record { seat = c.take_awaiter.new.seat }) [] (TookBack s.0) (Some s.1) (held c.take_awaiter.result) None [] (at_rest (TookBack s.0) (awaiter_first (Some s.1) []) p p s.2 refl refl) e.0 e.2 e.3 in
-    may_make _ (record { seat = c.take_awaiter.new.seat }) (TookBack s.0) (awaiter_first None []) _ _ (stands p (record { seat = c.take_awaiter.new.seat }) [] (TookBack s.0) (awaiter_first None []) x.1) (ends_notified _ _ _ _ s.0 _ _ _ refl) (λ m f. refl)
+    may_make _ (record { seat = c.take_awaiter.new.seat }) (TookBack s.0) (awaiter_first None []) _ _ (stands p (record { seat = c.take_awaiter.new.seat }) [] (TookBack s.0) (awaiter_first None []) x.1) (ends_notified _ _ _ _ _ s.0 _ _ _ refl) (λ m f. refl)
 
 pub returns-clause-path : goal.returns-clause-path
 returns-clause-path g c = let s = c.requires.party in let p = c.args.party.now in let e = c.take_awaiter.ensures in

@@ -20,7 +20,7 @@ give-found-requires-clause-cell g c = let s = c.requires.party in c.note_output_
 pub give-found-requires-clause-allowed : goal.give-found-requires-clause-allowed
 give-found-requires-clause-allowed g c = let s = c.requires.party in let put = c.take-unclaimed.ensures OutputCloser s.0 [] s.1 in
     let d = did_then c.args.party.now c.take-unclaimed.new.party c.note_output_dropped.new.party [] (act DropOutput ∷ []) OutputCloser Detacher (work_first Empty []) [] put c.note_output_dropped.ensures in
-    may_give_up _ c.note_output_dropped.new.party Detacher [] _ _ _ (stands c.args.party.now c.note_output_dropped.new.party (act DropOutput ∷ []) Detacher [] d) (gives_task_up _ _ _ _ _ _ _ (ap (λ m. saw_closed (head_of m.0.members).deeds) d.is ∙ s.2)) (gives_task _ _ _)
+    may_give_up _ c.note_output_dropped.new.party Detacher [] _ _ _ (stands c.args.party.now c.note_output_dropped.new.party (act DropOutput ∷ []) Detacher [] d) (gives_task_up _ _ _ _ _ _ _ _ (ap (λ m. saw_closed (head_of m.0.members).deeds) d.is ∙ s.2)) (gives_task _ _ _)
 
 pub returns-clause-path : goal.returns-clause-path
 returns-clause-path g c = let s = c.requires.party in let put = c.take-unclaimed.ensures OutputCloser s.0 [] s.1 in let given = c.give-found.ensures in
@@ -29,4 +29,4 @@ returns-clause-path g c = let s = c.requires.party in let put = c.take-unclaimed
     (gives_rest c.args.party.now c.note_output_dropped.new.party c.give-found.new.party _ d given.cell (given.knows.closed (ap (λ m. saw_closed (head_of m.0.members).deeds) d.is ∙ s.2)) given.made)
 
 pub returns-clause-share : goal.returns-clause-share
-returns-clause-share g c = let e = c.give-found.ensures.share in record { cell = e.cell; limit = e.limit; is_there = e.is_there ∙ (left_by_last c.give-found.result.0.references ∙ ap (λ k. nat_eq k 0) (sym c.references.ensures)) }
+returns-clause-share g c = let e = c.give-found.ensures.share in record { cell = e.cell; terms = e.terms; is_there = e.is_there ∙ (left_by_last c.give-found.result.0.references ∙ ap (λ k. nat_eq k 0) (sym c.references.ensures)) }

@@ -8,24 +8,24 @@ observe-requires-clause-seen g c = let s = c.requires.seen in (s.0, s.2)
 
 pub part_at-found-requires-clause-allowed : goal.part_at-found-requires-clause-allowed
 part_at-found-requires-clause-allowed g c = let s = c.requires.seen in let self = c.args.self in let limit = ap (λ x. x.limit) c.cell.ensures ∙ sym self.fitting.0 in
-    let x = answered g.P.Change.attempt _ self.block.key c.args.word c.in-Some.made (sym c.in-Some.is ∙ c.next.ensures) limit in
-    may_exchange self.block.key _ _ _ _ _ _ g.P.Change.attempt c.args.word _ _ refl refl refl (seeing_first c.args.word c.args.party.now.seat.me s.0 s.1 s.2) c.requires.allowed x.0 c.bits.ensures (c.bits-2.ensures ∙ ap (λ z. number_of z.0) x.1)
+    let x = answered g.P.Change.attempt _ self.block.key.limit c.args.word c.in-Some.made (sym c.in-Some.is ∙ c.next.ensures) limit in
+    may_exchange self.block.key.limit _ _ _ _ _ _ g.P.Change.attempt c.args.word _ _ refl refl refl (seeing_first c.args.word c.args.party.now.seat.me s.0 s.1 s.2) c.requires.allowed x.0 c.bits.ensures (c.bits-2.ensures ∙ ap (λ z. number_of z.0) x.1)
 
 pub part_at-found-requires-clause-shares : goal.part_at-found-requires-clause-shares
 part_at-found-requires-clause-shares g c = let s = c.requires.seen in let self = c.args.self in let limit = ap (λ x. x.limit) c.cell.ensures ∙ sym self.fitting.0 in
-    let x = answered g.P.Change.attempt _ self.block.key c.args.word c.in-Some.made (sym c.in-Some.is ∙ c.next.ensures) limit in
-    may_less self.block.key _ _ _ _ _ g.P.Change.attempt c.args.word _ _ refl refl (seeing_first c.args.word c.args.party.now.seat.me s.0 s.1 s.2) c.requires.shares x.0 c.bits.ensures (c.bits-2.ensures ∙ ap (λ z. number_of z.0) x.1)
+    let x = answered g.P.Change.attempt _ self.block.key.limit c.args.word c.in-Some.made (sym c.in-Some.is ∙ c.next.ensures) limit in
+    may_less self.block.key.limit _ _ _ _ _ g.P.Change.attempt c.args.word _ _ refl refl (seeing_first c.args.word c.args.party.now.seat.me s.0 s.1 s.2) c.requires.shares x.0 c.bits.ensures (c.bits-2.ensures ∙ ap (λ z. number_of z.0) x.1)
 
 pub returns-then-found-bits-clause-tried : goal.returns-then-found-bits-clause-tried
 returns-then-found-bits-clause-tried g c = let self = c.args.self in let limit = ap (λ x. x.limit) c.cell.ensures ∙ sym self.fitting.0 in
-    let x = answered g.P.Change.attempt _ self.block.key c.args.word c.in-Some.made (sym c.in-Some.is ∙ c.next.ensures) limit in
+    let x = answered g.P.Change.attempt _ self.block.key.limit c.args.word c.in-Some.made (sym c.in-Some.is ∙ c.next.ensures) limit in
     changed_by _ g.P.Change.attempt _ _ c.bits-2.result c.args.word c.in-Some.made.1 _ _ (c.if-found-bits.true ∙ (c.bits-3.ensures ∙ sym c.bits.ensures)) c.bits.ensures x.0 (ap (λ z. z.1) x.1) c.part_at-found.ensures.seat.2
 
 pub returns-then-found-bits-clause-share : goal.returns-then-found-bits-clause-share
 returns-then-found-bits-clause-share g c = let self = c.args.self in let e = c.part_at-found.ensures.share in let limit = ap (λ x. x.limit) c.cell.ensures ∙ sym self.fitting.0 in
-    let x = answered g.P.Change.attempt _ self.block.key c.args.word c.in-Some.made (sym c.in-Some.is ∙ c.next.ensures) limit in record {
+    let x = answered g.P.Change.attempt _ self.block.key.limit c.args.word c.in-Some.made (sym c.in-Some.is ∙ c.next.ensures) limit in record {
       cell = e.cell;
-      limit = e.limit;
+      terms = e.terms;
       is_there = e.is_there ∙ ap (λ b. not b) (counts_made g.P.Change.attempt _ _ c.args.word c.in-Some.made.1 (c.if-found-bits.true ∙ (c.bits-3.ensures ∙ sym c.bits.ensures)) c.bits.ensures (ap (λ z. z.1) x.1));
     }
 

@@ -10,10 +10,10 @@ pub attempt_again-requires-clause-seen : goal.attempt_again-requires-clause-seen
 attempt_again-requires-clause-seen g c = let s = c.requires.party in seen_on c.args.word s.0.seat.me _ s.2.seen
 
 pub attempt_again-requires-clause-allowed : goal.attempt_again-requires-clause-allowed
-attempt_again-requires-clause-allowed g c = let s = c.requires.party in may_still _ _ _ _ s.0.seat.me _ to_wake c.args.word refl s.2.number s.2.seen (may_wake _ _ _ _ s.0 s.1).0
+attempt_again-requires-clause-allowed g c = let s = c.requires.party in may_still _ _ _ _ s.0.seat.me _ to_wake c.args.word refl s.2.number s.2.seen (may_wake _ _ _ _ _ s.0 s.1).0
 
 pub attempt_again-requires-clause-shares : goal.attempt_again-requires-clause-shares
-attempt_again-requires-clause-shares g c = let s = c.requires.party in bring_still _ _ _ s.0.seat.me _ to_wake c.args.word s.2.number s.2.seen (may_wake _ _ _ _ s.0 s.1).1
+attempt_again-requires-clause-shares g c = let s = c.requires.party in bring_still _ _ _ s.0.seat.me _ to_wake c.args.word s.2.number s.2.seen (may_wake _ _ _ _ _ s.0 s.1).1
 
 pub deliverer_of-requires-clause-cell : goal.deliverer_of-requires-clause-cell
 deliverer_of-requires-clause-cell g c = c.in-Ok.ensures.cell ∙ c.requires.cell.0

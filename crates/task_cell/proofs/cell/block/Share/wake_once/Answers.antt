@@ -4,10 +4,10 @@ use Rattle.task_cell.proofs.WakerMoves.{fresh_stands, may_wake, wakes_over}
 use Rattle.task_cell.proofs.cell.block.Share.wake_once.Goals as goal
 
 pub try_once-requires-clause-allowed : goal.try_once-requires-clause-allowed
-try_once-requires-clause-allowed g c = let p = c.borrow-word.result.1 in (may_wake _ _ _ _ p (fresh_stands as_lent _ p c.borrow-word.ensures.party)).0
+try_once-requires-clause-allowed g c = let p = c.borrow-word.result.1 in (may_wake _ _ _ _ _ p (fresh_stands as_lent _ p c.borrow-word.ensures.party)).0
 
 pub try_once-requires-clause-shares : goal.try_once-requires-clause-shares
-try_once-requires-clause-shares g c = let p = c.borrow-word.result.1 in (may_wake _ _ _ _ p (fresh_stands as_lent _ p c.borrow-word.ensures.party)).1
+try_once-requires-clause-shares g c = let p = c.borrow-word.result.1 in (may_wake _ _ _ _ _ p (fresh_stands as_lent _ p c.borrow-word.ensures.party)).1
 
 pub deliverer_of-woken-requires-clause-cell : goal.deliverer_of-woken-requires-clause-cell
 deliverer_of-woken-requires-clause-cell g c = c.in-Made.ensures.seat.0 ∙ c.borrow-word.ensures.cell

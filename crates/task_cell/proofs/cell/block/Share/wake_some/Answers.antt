@@ -5,10 +5,10 @@ use Rattle.task_cell.proofs.WakerMoves.{fresh_stands, may_wake, wake_gives, wake
 use Rattle.task_cell.proofs.cell.block.Share.wake_some.Goals as goal
 
 pub attempt_some-requires-clause-allowed : goal.attempt_some-requires-clause-allowed
-attempt_some-requires-clause-allowed g c = let p = c.borrow-word.result.1 in (may_wake _ _ _ _ p (fresh_stands as_lent _ p c.borrow-word.ensures.party)).0
+attempt_some-requires-clause-allowed g c = let p = c.borrow-word.result.1 in (may_wake _ _ _ _ _ p (fresh_stands as_lent _ p c.borrow-word.ensures.party)).0
 
 pub attempt_some-requires-clause-shares : goal.attempt_some-requires-clause-shares
-attempt_some-requires-clause-shares g c = let p = c.borrow-word.result.1 in (may_wake _ _ _ _ p (fresh_stands as_lent _ p c.borrow-word.ensures.party)).1
+attempt_some-requires-clause-shares g c = let p = c.borrow-word.result.1 in (may_wake _ _ _ _ _ p (fresh_stands as_lent _ p c.borrow-word.ensures.party)).1
 
 pub deliverer_of-woken-requires-clause-cell : goal.deliverer_of-woken-requires-clause-cell
 deliverer_of-woken-requires-clause-cell g c = c.in-Made.ensures.seat.0 ∙ c.borrow-word.ensures.cell
