@@ -1,5 +1,7 @@
 -- What a step comes to for the places of the party that made it.
 use Rattle.task_steps.specs.Values.{Values}
+use Rattle.task_steps.specs.Rule.{IsFuture, IsOutput}
+use Rattle.task_steps.specs.declared.table.Slot.TheVariants.{Empty, Future, Output}
 use Rattle.task_cell.proofs.Vocabulary.{◌≡◌, ℕ, Bool, true, false, List, [], ◌∷◌, Option, refl, sym, ap, ◌∙◌, subst, Me, rest, Position, owns_awaiter, Slot, TaskPlace, First, Second, work_first, awaiter_first, Deed, View, Party, has_work, Works, Awaits}
 use Rattle.task_cell.proofs.Vocabulary.{Carries, Carried, DidWith}
 
@@ -76,3 +78,15 @@ module _ {F T A : Type 0} where
   pub exchanges_awaiter : (p q r : Party F T A) (path : List Deed) (at : Position) (y x new : Option A) (held : List (ℕ × TaskPlace F T A)) → DidWith path at (awaiter_first y held) p q → r.seat.block ≡ q.seat.block
       → q.seat.me.1 ≡ awaiter_first x (rest q.seat.me.1) → r.seat.me ≡ (q.seat.me.0, awaiter_first new (rest q.seat.me.1)) → (y ≡ x) × DidWith path at (awaiter_first new held) p r
   exchanges_awaiter = exchanges 1 (λ a. Second a) awaiter_in (λ z x. refl)
+
+-- the work that lies there is a future, or an output
+module _ {F T : Type 0} (values : Values F T) where
+  pub lies_future : (y : Slot F T) → IsFuture values y → (f : F) × (y ≡ Future f)
+  lies_future Empty is = absurd is
+  lies_future (Future f) is = (f, refl)
+  lies_future (Output x) is = absurd is
+
+  pub lies_output : (y : Slot F T) → IsOutput values y → (x : T) × (y ≡ Output x)
+  lies_output Empty is = absurd is
+  lies_output (Future f) is = absurd is
+  lies_output (Output x) is = (x, refl)

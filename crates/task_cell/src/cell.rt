@@ -85,7 +85,7 @@ impl<R: Wait + Drop + Copy, F: Yields, Q: Drop, M: Drop, A: Wake, B: Allocator +
     pub(crate) fn into_party(self) -> (Share<R, F, Q, M, A, B>, Party<F, Kept<F>, A>)
         ensures share { result.0 ≡ self.share }
         ensures is { result.1 ≡ self.party }
-        ensures cell { (result.1.seat.block ≡ result.0.block.id) × (limit_of result.1 ≡ limit_in result.0) }
+        ensures cell { (result.1.seat.block ≡ result.0.block.id) × (limit_of result.1 ≡ result.0.block.key.limit) }
         ensures party { Stands as_runnable result.1 × (deeds result.1 ≡ []) }
     {
         let RunnableSeat { share, party } = self;

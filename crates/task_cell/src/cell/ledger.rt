@@ -38,7 +38,7 @@ impl<R, F: Yields, Q, M, A, B: Allocator> Ledger<R, F, Q, M, A, B> {
         requires cell { IsBeside self.now party.old }
         requires allowed { MayNote (values_of F.Yields self.now.ledger.key.future.value) self.now.ledger.key.limit S.acts party.old }
         ensures cell { party.new.seat.block ≡ party.old.seat.block }
-        ensures made { (w : State) × Makes (S.acts w) w party.old.seat.me party.new.seat.me }
+        ensures made { (w : State) × Makes (values_of F.Yields self.now.ledger.key.future.value) (S.acts w) w party.old.seat.me party.new.seat.me }
     {
         self.ledger.note::<Knowing<S>>(&mut party.seat);
     }

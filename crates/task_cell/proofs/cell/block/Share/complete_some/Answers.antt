@@ -4,10 +4,10 @@ use Rattle.task_cell.proofs.Moved.{stands}
 use Rattle.task_cell.proofs.cell.block.Share.complete_some.Goals as goal
 
 pub change_some-requires-clause-allowed : goal.change_some-requires-clause-allowed
-change_some-requires-clause-allowed g c = (may_complete _ _ _ _ _ c.lay_output.new.party (Output c.args.output.value) (stands _ _ _ _ _ c.lay_output.ensures) tt).0
+change_some-requires-clause-allowed g c = (may_complete _ _ _ _ _ c.lay_output.new.party (Output c.args.output.value) (stands _ _ _ _ _ c.lay_output.ensures) c.requires.yielded).0
 
 pub change_some-requires-clause-shares : goal.change_some-requires-clause-shares
-change_some-requires-clause-shares g c = (may_complete _ _ _ _ _ c.lay_output.new.party (Output c.args.output.value) (stands _ _ _ _ _ c.lay_output.ensures) tt).1
+change_some-requires-clause-shares g c = (may_complete _ _ _ _ _ c.lay_output.new.party (Output c.args.output.value) (stands _ _ _ _ _ c.lay_output.ensures) c.requires.yielded).1
 
 pub returns-in-Made : goal.returns-in-Made
 returns-in-Made g c = completes_then ReadyFutureDropped (work_first (Output c.args.output.value) []) c.args.party.now c.lay_output.new.party c.change_some.new.party c.in-Made.found c.lay_output.ensures

@@ -2,6 +2,8 @@ use Rattle.task_cell.proofs.Vocabulary.{ap, ◌∙◌, subst, refl, ◌∷◌, [
 use Rattle.task_cell.specs.Belongs.{cell_of}
 use Rattle.task_cell.proofs.Carried.{same_work}
 use Rattle.task_cell.proofs.Running.{notes_on}
+use Rattle.task_cell.proofs.Carried.{lies_future}
+use Rattle.task_cell.specs.Belongs.{values_in}
 use Rattle.task_cell.proofs.cell.block.Share.poll_future.Goals as goal
 
 pub returns-clause-once : goal.returns-clause-once
@@ -13,4 +15,10 @@ returns-clause-once g c = let s = c.requires.party in let p = c.polled-answer.en
       subst (λ y. StandsWith Polling (work_first y []) c.args.party) there s.1,
       notes_on (work_first (Future p.1) []) c.args.party _ _ _ _ (record { cell = refl; is = polled }) (c.note_answer-party.ensures (work_first (Future p.1) []) polled),
       (_, ap cell_of c.lent.ensures.share, refl, p.4),
+      subst (λ y. IsFuture (values_in c.args.self) y) there s.2,
+      p.5,
     )
+
+pub polled-answer-requires : goal.polled-answer-requires
+polled-answer-requires g c = let s = c.requires.party in let f = lies_future (values_in c.args.self) s.0 s.2 in
+    record { clause-1 = (f.0, sym (same_work s.0 c.first_mut.result.now _ _ _ (ap (λ m. m.1) s.1) c.first_mut.ensures.value) ∙ f.1) }
