@@ -1,19 +1,17 @@
 //! Spawning a task.
 ghost use Rattle.std.specs.Prelude.{◌≡◌, ◌<◌, [], min, IfOk, IfErr};
 ghost use Rattle.std.specs.Fn.{FnOnceReturnsAt};
-ghost use Rattle.task_steps.specs.Rule.{laid_view};
 ghost use Rattle.task_steps.specs.Standing.{as_task};
-ghost use Rattle.task_cell.specs.Belongs.{cell_of, limit_in};
+ghost use Rattle.task_cell.specs.Belongs.{cell_of, limit_in, spawned_in};
 ghost use Rattle.task_cell.specs.Calls.{Stands, deeds};
 
 use crate::task::{Task, TaskParty};
 use std::alloc::{AllocError, Allocator};
 use std::sync::Wait;
 use std::{fmt, io};
-use task_cell::{Runnable, Share};
+use task_cell::{LaidCell, Runnable};
 use task_core::word::LIMIT;
 use task_core::{Schedule, Wake, Yields};
-use task_steps::table::{Kept, TaskSeat};
 use thiserror::Error;
 
 /// What a spawn is given beside the future and the schedule value: the metadata, and the limit of references.
@@ -132,15 +130,15 @@ impl<M: Drop> Builder<M> {
         ensures shares { IfOk result (λ handles. cell_of handles.1.inner.share ≡ cell_of handles.0.inner.share) }
         ensures opening { IfOk result (λ handles. Stands (as_task 0) handles.1.inner.party × (deeds handles.1.inner.party ≡ [])) }
         ensures around { IfOk result (λ handles. (handles.0.around ≡ around) × (handles.1.around ≡ around)) }
-        ensures given { IfOk result (λ handles. let block = handles.0.inner.share.block in (block.value.metadata ≡ self.metadata) × (block.key ≡ self.limit) × (block.value.schedule ≡ schedule)) }
-        ensures made { IfOk result (λ _. (future : F) × FnOnceReturnsAt G.FnOnce maker self.metadata future) }
+        ensures given { IfOk result (λ handles. let block = handles.0.inner.share.block in (block.value.metadata ≡ self.metadata) × (block.key.limit ≡ self.limit) × (block.value.schedule ≡ schedule)) }
+        ensures made { IfOk result (λ handles. FnOnceReturnsAt G.FnOnce maker self.metadata (spawned_in handles.1.inner.share)) }
         ensures refused { IfErr result (λ e. (e.builder ≡ self) × (e.maker ≡ maker) × (e.schedule ≡ schedule)) }
     {
         let Builder { metadata, limit } = self;
-        match Share::make(rt, alloc, schedule, metadata, limit) {
-            Ok((first, second, seat)) => {
-                let future = maker(first.metadata());
-                Ok(handles_of(first, second, seat, future, around))
+        match LaidCell::make(rt, alloc, schedule, metadata, limit) {
+            Ok(laid) => {
+                let future = maker(laid.metadata());
+                Ok(handles_of(laid, future, around))
             }
             Err((schedule, metadata)) => Err(SpawnError {
                 builder: Builder { metadata, limit },
@@ -151,11 +149,9 @@ impl<M: Drop> Builder<M> {
     }
 }
 
-// The handles of a task whose memory was found: the future is put in by the seat, and each handle gets one of the shares.
+// The handles of a task whose memory was found: the future is put in.
 fn handles_of<R, F, Q, M, A, X, B>(
-    first: Share<R, F, Q, M, A, B>,
-    second: Share<R, F, Q, M, A, B>,
-    seat: TaskSeat<F, Kept<F>, A>,
+    laid: LaidCell<R, F, Q, M, A, B>,
     future: F,
     around: X,
 ) -> (Runnable<R, F, Q, M, A, X, B>, Task<R, F, Q, M, A, X, B>)
@@ -167,13 +163,13 @@ where
     X: Copy,
     B: Allocator + Copy,
     Q: Schedule<Runnable<R, F, Q, M, A, X, B>> + Drop,
-    requires shares { cell_of second ≡ cell_of first }
-    requires seat { (seat.block ≡ first.block.id) × (seat.me ≡ (laid_view (limit_in first), [])) }
-    ensures cells { (result.0.inner.share ≡ first) × (result.1.inner.share ≡ second) }
+    ensures shares { cell_of result.1.inner.share ≡ cell_of result.0.inner.share }
+    ensures given { (result.0.inner.share.block.value ≡ laid.laid.whole.value.value) × (limit_in result.0.inner.share ≡ laid.laid.whole.value.value.limit) }
+    ensures spawned { spawned_in result.1.inner.share ≡ future }
     ensures opening { Stands (as_task 0) result.1.inner.party × (deeds result.1.inner.party ≡ []) }
     ensures around { (result.0.around ≡ around) × (result.1.around ≡ around) }
 {
-    let (runnable, task) = first.fill(seat, future);
+    let (first, second, runnable, task) = laid.fill(future);
     let runnable = Runnable::new(first, runnable, around);
     let task = TaskParty {
         share: second,
@@ -209,11 +205,12 @@ where
     ensures shares { IfOk result (λ handles. cell_of handles.1.inner.share ≡ cell_of handles.0.inner.share) }
     ensures opening { IfOk result (λ handles. Stands (as_task 0) handles.1.inner.party × (deeds handles.1.inner.party ≡ [])) }
     ensures around { IfOk result (λ handles. (handles.0.around ≡ around) × (handles.1.around ≡ around)) }
-    ensures given { IfOk result (λ handles. let block = handles.0.inner.share.block in (block.key ≡ LIMIT) × (block.value.schedule ≡ schedule)) }
+    ensures given { IfOk result (λ handles. let block = handles.0.inner.share.block in (block.key.limit ≡ LIMIT) × (block.value.schedule ≡ schedule)) }
+    ensures spawned { IfOk result (λ handles. spawned_in handles.1.inner.share ≡ future) }
     ensures refused { IfErr result (λ e. (e.builder.limit ≡ LIMIT) × (e.maker ≡ future) × (e.schedule ≡ schedule)) }
 {
-    match Share::make(rt, alloc, schedule, (), LIMIT) {
-        Ok((first, second, seat)) => Ok(handles_of(first, second, seat, future, around)),
+    match LaidCell::make(rt, alloc, schedule, (), LIMIT) {
+        Ok(laid) => Ok(handles_of(laid, future, around)),
         Err((schedule, metadata)) => Err(SpawnError {
             builder: Builder {
                 metadata,

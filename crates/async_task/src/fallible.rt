@@ -4,7 +4,7 @@ ghost use Rattle.task_steps.specs.declared.table.Deed.{Deed};
 ghost use Rattle.task_steps.specs.Standing.{as_ended};
 ghost use Rattle.task_steps.specs.Steps.{saw_over, saw_ended};
 ghost use Rattle.async_task.specs.HandlePaths.{EndsTask, FindsFinished, PollsOnce, IfSomeOutput};
-ghost use Rattle.task_cell.specs.Belongs.{cell_of};
+ghost use Rattle.task_cell.specs.Belongs.{cell_of, HasYielded};
 ghost use Rattle.task_cell.specs.Calls.{Did, deeds};
 ghost use Rattle.task_cell.specs.Handed.{HandedOver};
 ghost use Rattle.task_cell.specs.TaskPaths.{CancelPath, DetachPath};
@@ -114,11 +114,12 @@ where
 
     /// Answers with the output once there is one, or with `None` where the task is closed. Otherwise a clone of `awaiter` is registered, to be woken then.
     ///
-    /// The output meets what the type of the future states. `None` says that no output will come, and each later poll answers the same.
+    /// The output is one that the future which was spawned has answered, as that of a Task, and meets what its type states. `None` says that no output will come, and each later poll answers the same.
     /// `Refused` says that the clone was refused: nothing was registered, and an awaiter that an earlier poll registered is still woken.
     pub fn poll(&mut self, awaiter: &A) -> TaskPoll<Option<F::Output>>
         ensures path { PollsOnce A.cloned A.woken A.woken_by_ref A.compared awaiter.now self.old.task.inner.party self.new.task.inner.party result }
         ensures meets { IfSomeOutput result (λ output. ∥ F.Yields.meets output ∥₁) }
+        ensures yielded { IfSomeOutput result (λ output. HasYielded self.old.task.inner.share output) }
         ensures ended { saw_ended (deeds self.old.task.inner.party) ≡ true → result ≡ TaskPoll.Ready None }
         ensures closed { result ≡ TaskPoll.Ready None → saw_ended (deeds self.new.task.inner.party) ≡ true }
         ensures cell { self.new.task.inner.share ≡ self.old.task.inner.share }

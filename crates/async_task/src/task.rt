@@ -1,6 +1,6 @@
 //! The Task: the handle that awaits the output.
 ghost use Rattle.std.specs.Prelude.{◌≡◌, ℕ, List, ◌∷◌, [], true, false, None};
-ghost use Rattle.task_cell.specs.Belongs.{cell_of};
+ghost use Rattle.task_cell.specs.Belongs.{cell_of, HasYielded};
 ghost use Rattle.task_steps.specs.declared.table.Deed.{Deed};
 ghost use Rattle.task_steps.specs.Rule.{view, member};
 ghost use Rattle.task_steps.specs.Steps.{saw_over, saw_ended};
@@ -39,7 +39,7 @@ pub(crate) struct TaskParty<R, F: Yields, Q, M, A, B: Allocator + Copy> {
     pub(crate) share: Share<R, F, Q, M, A, B>,
     pub(crate) party: Party<F, Kept<F>, A>,
     ghost seated: { party.seat.block ≡ share.block.id },
-    ghost limited: { limit_of party ≡ share.block.key },
+    ghost limited: { limit_of party ≡ share.block.key.limit },
     ghost placed: { is_task (position party) ≡ true },
     ghost alone: { party.seat.me.0 ≡ view (limit_of party) (member (position party) (deeds party) ∷ []) },
     ghost free: { is_empty (places_of party) ≡ true },
@@ -71,10 +71,11 @@ impl<R: Wait + Drop + Copy, F: Yields, Q: Drop, M: Drop, A: Wake, B: Allocator +
         self.share.witness(&mut self.party)
     }
 
-    // One poll of the Task. The output that it hands out meets what the type of the future states.
+    // One poll of the Task. The output that it hands out is one that the spawned future has answered, and meets what its type states.
     pub(crate) fn poll(&mut self, awaiter: &A) -> TaskPoll<Option<F::Output>>
         ensures path { PollsOnce A.cloned A.woken A.woken_by_ref A.compared awaiter.now self.old.party self.new.party result }
         ensures meets { IfSomeOutput result (λ output. ∥ F.Yields.meets output ∥₁) }
+        ensures yielded { IfSomeOutput result (λ output. HasYielded self.old.share output) }
         ensures ended { saw_ended (deeds self.old.party) ≡ true → result ≡ TaskPoll.Ready None }
         ensures closed { result ≡ TaskPoll.Ready None → saw_ended (deeds self.new.party) ≡ true }
         ensures share { self.new.share ≡ self.old.share }
@@ -243,11 +244,12 @@ where
 
     /// Answers with the output once there is one, or with `TaskClosed`. Otherwise a clone of `awaiter` is registered, to be woken then.
     ///
-    /// The output meets what the type of the future states. `TaskClosed` says that no output will come, and each later poll answers the same.
+    /// The output is one that the future which was spawned has answered, after polls that answered Pending, by what its type states of each (`moves`); and it meets `meets`. `TaskClosed` says that no output will come, and each later poll answers the same.
     /// `Refused` says that the clone was refused: nothing was registered, and an awaiter that an earlier poll registered is still woken.
     pub fn poll(&mut self, awaiter: &A) -> TaskPoll<Result<F::Output, TaskClosed>>
         ensures path { PollsOnce A.cloned A.woken A.woken_by_ref A.compared awaiter.now self.old.inner.party self.new.inner.party (fallible_answer result) }
         ensures meets { IfOutput result (λ output. ∥ F.Yields.meets output ∥₁) }
+        ensures yielded { IfOutput result (λ output. HasYielded self.old.inner.share output) }
         ensures ended { saw_ended (deeds self.old.inner.party) ≡ true → is_closed result ≡ true }
         ensures closed { is_closed result ≡ true → saw_ended (deeds self.new.inner.party) ≡ true }
         ensures cell { self.new.inner.share ≡ self.old.inner.share }

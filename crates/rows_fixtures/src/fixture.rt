@@ -76,7 +76,7 @@ impl<R: Wait + Drop + Copy> Fixture<R> {
         references: u64,
     ) -> Result<(RowRunnable<'_, R>, RowTask<'_, R>), AllocError>
         ensures shares { IfOk result (λ handles. cell_of handles.1.inner.share ≡ cell_of handles.0.inner.share) }
-        ensures limit { IfOk result (λ handles. handles.0.inner.share.block.key ≡ min references LIMIT) }
+        ensures limit { IfOk result (λ handles. handles.0.inner.share.block.key.limit ≡ min references LIMIT) }
     {
         let (future, scheduler) = self.counted(behaviour)?;
         Builder::new()

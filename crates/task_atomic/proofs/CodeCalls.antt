@@ -20,6 +20,7 @@ use Rattle.task_atomic.specs.Small.{SmallAct, NoAct}
 use Rattle.task_atomic.specs.Atomic.{act_of, SmallStep, act_in, act_at, small_steps}
 use Rattle.task_atomic.specs.Calls.{and_act}
 use Rattle.task_atomic.specs.Deeds.{act_by, acts_of}
+use Rattle.task_steps.specs.Values.{Values}
 use Rattle.task_atomic.specs.CodeActs.{IsAct, acts_by, newest, oldest, IsCall, CallsAreActs, CellsAreRuns}
 use Rattle.task_atomic.proofs.SmallRuns.{stands_after, steps_are_runs}
 use Rattle.task_atomic.proofs.NextDeeds.{deeds_are_acts, same_party}
@@ -283,8 +284,8 @@ calls_are_acts limit log m r k ds did newer path older is =
     ∙ ap (λ (l : List Deed). newer ++ l) (ap (λ (l : List Deed). l ++ rest) (after_end path d older) ∙ ap (λ (l : List Deed). d ∷ l) (after_more path older rest ∙ sym (after_more path [] (older ++ rest)))) in
     is_call limit k log m r newer path (older ++ rest) all
 
-pub cells_are_runs : (F T A : Type 0) → CellsAreRuns F T A
-cells_are_runs F T A limit s holds id index v u seat there =
+pub cells_are_runs : (F T A : Type 0) (values : Values F T) → CellsAreRuns values A
+cells_are_runs F T A values limit s holds id index v u seat there =
     let r = holds.running in
     let k = r.told.each id index v u seat there in
     record {

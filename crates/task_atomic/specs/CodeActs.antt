@@ -13,6 +13,7 @@ use Rattle.task_steps.specs.declared.table.Deed.{Deed}
 use Rattle.task_steps.specs.declared.table.Member.{Member}
 use Rattle.task_steps.specs.declared.table.View.{View}
 use Rattle.task_steps.specs.Deeds.{act, after}
+use Rattle.task_steps.specs.Values.{Values}
 use Rattle.task_steps.specs.Rule.{TaskPlace, Entry, Reaches, steps_of, deeds_of, DidLast, RuleHolds}
 use Rattle.task_atomic.specs.Small.{small_task, SmallAct, spawned, acted, all_acted}
 use Rattle.task_atomic.specs.Atomic.{act_of, SmallStep, small_steps, acts_in}
@@ -85,7 +86,7 @@ module _ {F T A : Type 0} where
     pub did : DidLast party log ds
 
 -- .. wherever the rule of a cell holds, for each party of a seat
-abbrev pub CellsAreRuns : Type 0 → Type 0 → Type 0 → Type 0
-CellsAreRuns F T A =
-    (limit : ℕ) (s : Board (TaskPlace F T A) View) → RuleHolds {F = F} {T = T} {A = A} limit s → (id index : ℕ) (v : View) (u : Member)
+abbrev pub CellsAreRuns : {F T : Type 0} → Values F T → Type 0 → Type 0
+CellsAreRuns {F} {T} values A =
+    (limit : ℕ) (s : Board (TaskPlace F T A) View) → RuleHolds {A = A} values limit s → (id index : ℕ) (v : View) (u : Member)
     → get_elem? s.views id ≡ some v → get_elem? v.members index ≡ some u → IsRunOf limit s u.at u.deeds

@@ -20,6 +20,7 @@ ghost use Rattle.task_atomic.specs.Tables.{CancelsAgain};
 ghost use Rattle.task_atomic.specs.Witnessed.{WitnessesExplain};
 ghost use Rattle.task_cell.specs.Handed.{HandedOver, PolledOnce};
 ghost use Rattle.task_laws.specs.Table.{rule};
+ghost use Rattle.task_steps.specs.Values.{values_of};
 
 use std::alloc::Allocator;
 use std::sync::Wait;
@@ -64,8 +65,8 @@ where
 /// Wherever the rule of a cell holds, its interleaving is a run of the small task that ends in the present word, in which each party of a seat did last
 /// what the seat knows (`cells`). In it a deed is its act, made at that moment (`deeds`), and a call made the acts of its path, in their order, between
 /// its first deed and its answer (`calls`). A caller that has a witness, as `Task::witness` gives, has that for its task and its calls (`witnesses`).
-pub fn code<F, T, A>()
-    ensures cells { CellsAreRuns F T A }
+pub fn code<F: Yields, A>()
+    ensures cells { (spawned : F) → CellsAreRuns (values_of F.Yields spawned) A }
     ensures deeds { DeedsAreActs }
     ensures calls { CallsAreActs }
     ensures witnesses { WitnessesExplain }

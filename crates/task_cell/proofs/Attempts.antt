@@ -179,21 +179,18 @@ module _ {F T A : Type 0} where
 
 -- by another share of the cell, whose key is the same
 module _ {F O A : Type 0} {G : Ghosts F O} where
-  abbrev pub Mine : Type 0
-  Mine = Me (TaskPlace F (Kept F O G) A) View
-
-  pub may_still_by : {Row : Type 0} (terms key : Terms F) (id other : ℕ) (me now : Mine) (change : Attempt Row) (w : State) → key ≡ terms → other ≡ id → HasSeen w me now
+  pub may_still_by : {Row : Type 0} (terms key : Terms F) (id other : ℕ) (me now : Me (TaskPlace F (Kept F O G) A) View) (change : Attempt Row) (w : State) → key ≡ terms → other ≡ id → HasSeen w me now
       → MayTry (values_of G terms.future.value) terms.limit 2 id me change → MayTry (values_of G key.future.value) key.limit 2 other now change
   may_still_by terms key id other me now change w a e s may = subst (λ (k : Terms F). MayTry (values_of G k.future.value) k.limit 2 other now change) (sym a) (may_still terms.limit terms.limit id other me now change w refl e s may)
 
-  pub give_still_by : {Row : Type 0} (terms key : Terms F) (id other : ℕ) (me now : Mine) (change : Attempt Row) (w : State) → key ≡ terms → other ≡ id → HasSeen w me now
+  pub give_still_by : {Row : Type 0} (terms key : Terms F) (id other : ℕ) (me now : Me (TaskPlace F (Kept F O G) A) View) (change : Attempt Row) (w : State) → key ≡ terms → other ≡ id → HasSeen w me now
       → MayGive (values_of G terms.future.value) terms.limit id me change → MayGive (values_of G key.future.value) key.limit other now change
   give_still_by terms key id other me now change w a e s may = subst (λ (k : Terms F). MayGive (values_of G k.future.value) k.limit other now change) (sym a) (give_still terms.limit terms.limit id other me now change w refl e s may)
 
-  pub changed_by_key : {Row : Type 0} (terms key : Terms F) (change : Attempt Row) (v : State) (row : Row) (me now after : Mine) → key ≡ terms → HasSeen v me now
+  pub changed_by_key : {Row : Type 0} (terms key : Terms F) (change : Attempt Row) (v : State) (row : Row) (me now after : Me (TaskPlace F (Kept F O G) A) View) → key ≡ terms → HasSeen v me now
       → HasChanged (values_of G key.future.value) key.limit change row now after → HasChanged (values_of G terms.future.value) terms.limit change row me after
   changed_by_key terms key change v row me now after a s c = subst (λ (k : Terms F). HasChanged (values_of G k.future.value) k.limit change row me after) a (changed_after key.limit key.limit change v row me now after refl s c)
 
-  pub ended_by_key : {Row : Type 0} (terms key : Terms F) (change : Attempt Row) (v w : State) (me now after : Mine) → key ≡ terms → HasSeen v me now
+  pub ended_by_key : {Row : Type 0} (terms key : Terms F) (change : Attempt Row) (v w : State) (me now after : Me (TaskPlace F (Kept F O G) A) View) → key ≡ terms → HasSeen v me now
       → HasEnded (values_of G key.future.value) key.limit change w now after → HasEnded (values_of G terms.future.value) terms.limit change w me after
   ended_by_key terms key change v w me now after a s c = subst (λ (k : Terms F). HasEnded (values_of G k.future.value) k.limit change w me after) a (ended_after key.limit key.limit change v w me now after refl s c)

@@ -6,37 +6,37 @@ use Rattle.task_cell.proofs.Vocabulary.{◌≡◌, ℕ, Bool, true, false, List,
 use Rattle.task_cell.proofs.Vocabulary.{Carries, Carried, DidWith}
 
 module _ {F T A : Type 0} where
-  carries_kept {values = values} : {values : Values F T} (a c : Bool) (q : Position) (l l' : List (ℕ × TaskPlace F T A)) → Carries values a a c c q l l' → l' ≡ l
-  carries_kept true true q l l' e = e
-  carries_kept true false q l l' e = e
-  carries_kept false true q l l' e = e
-  carries_kept false false q l l' e = e
+  carries_kept : (values : Values F T) (a c : Bool) (q : Position) (l l' : List (ℕ × TaskPlace F T A)) → Carries values a a c c q l l' → l' ≡ l
+  carries_kept values true true q l l' e = e
+  carries_kept values true false q l l' e = e
+  carries_kept values false true q l l' e = e
+  carries_kept values false false q l l' e = e
 
-  carries_awaiter {values = values} : {values : Values F T} (a : Bool) (q : Position) (l l' : List (ℕ × TaskPlace F T A)) → Carries values a a false true q l l' → (y : Option A) × Awaits q y × (l' ≡ awaiter_first y l)
-  carries_awaiter true q l l' e = e
-  carries_awaiter false q l l' e = e
+  carries_awaiter : (values : Values F T) (a : Bool) (q : Position) (l l' : List (ℕ × TaskPlace F T A)) → Carries values a a false true q l l' → (y : Option A) × Awaits q y × (l' ≡ awaiter_first y l)
+  carries_awaiter values true q l l' e = e
+  carries_awaiter values false q l l' e = e
 
-  carries_back {values = values} : {values : Values F T} (a : Bool) (q : Position) (l l' : List (ℕ × TaskPlace F T A)) → Carries values a a true false q l l' → l' ≡ rest l
-  carries_back true q l l' e = e
-  carries_back false q l l' e = e
+  carries_back : (values : Values F T) (a : Bool) (q : Position) (l l' : List (ℕ × TaskPlace F T A)) → Carries values a a true false q l l' → l' ≡ rest l
+  carries_back values true q l l' e = e
+  carries_back values false q l l' e = e
 
-  at {values = values} : {values : Values F T} (p q : Position) (l l' : List (ℕ × TaskPlace F T A)) (a b c d : Bool) → has_work p ≡ a → has_work q ≡ b → owns_awaiter p ≡ c → owns_awaiter q ≡ d → Carried values p q l l' → Carries values a b c d q l l'
-  at {values = values} p q l l' a b c d e f g h x = subst (λ (z : Bool × Bool × Bool × Bool). Carries values z.0 z.1 z.2 z.3 q l l') (λ i. (e i, f i, g i, h i)) x
+  at : (values : Values F T) (p q : Position) (l l' : List (ℕ × TaskPlace F T A)) (a b c d : Bool) → has_work p ≡ a → has_work q ≡ b → owns_awaiter p ≡ c → owns_awaiter q ≡ d → Carried values p q l l' → Carries values a b c d q l l'
+  at values p q l l' a b c d e f g h x = subst (λ (z : Bool × Bool × Bool × Bool). Carries values z.0 z.1 z.2 z.3 q l l') (λ i. (e i, f i, g i, h i)) x
 
-  pub keeps_places : {values : Values F T} (p q : Position) (l l' : List (ℕ × TaskPlace F T A)) → has_work q ≡ has_work p → owns_awaiter q ≡ owns_awaiter p → Carried values p q l l' → l' ≡ l
-  keeps_places p q l l' e f x = carries_kept (has_work p) (owns_awaiter p) q l l' (at p q l l' (has_work p) (has_work p) (owns_awaiter p) (owns_awaiter p) refl e refl f x)
+  pub keeps_places : (values : Values F T) (p q : Position) (l l' : List (ℕ × TaskPlace F T A)) → has_work q ≡ has_work p → owns_awaiter q ≡ owns_awaiter p → Carried values p q l l' → l' ≡ l
+  keeps_places values p q l l' e f x = carries_kept values (has_work p) (owns_awaiter p) q l l' (at values p q l l' (has_work p) (has_work p) (owns_awaiter p) (owns_awaiter p) refl e refl f x)
 
-  pub took_awaiter : {values : Values F T} (p q : Position) (l l' : List (ℕ × TaskPlace F T A)) → has_work q ≡ has_work p → owns_awaiter p ≡ false → owns_awaiter q ≡ true → Carried values p q l l' → (y : Option A) × Awaits q y × (l' ≡ awaiter_first y l)
-  took_awaiter p q l l' e f g x = carries_awaiter (has_work p) q l l' (at p q l l' (has_work p) (has_work p) false true refl e f g x)
+  pub took_awaiter : (values : Values F T) (p q : Position) (l l' : List (ℕ × TaskPlace F T A)) → has_work q ≡ has_work p → owns_awaiter p ≡ false → owns_awaiter q ≡ true → Carried values p q l l' → (y : Option A) × Awaits q y × (l' ≡ awaiter_first y l)
+  took_awaiter values p q l l' e f g x = carries_awaiter values (has_work p) q l l' (at values p q l l' (has_work p) (has_work p) false true refl e f g x)
 
-  pub gave_awaiter : {values : Values F T} (p q : Position) (l l' : List (ℕ × TaskPlace F T A)) → has_work q ≡ has_work p → owns_awaiter p ≡ true → owns_awaiter q ≡ false → Carried values p q l l' → l' ≡ rest l
-  gave_awaiter p q l l' e f g x = carries_back (has_work p) q l l' (at p q l l' (has_work p) (has_work p) true false refl e f g x)
+  pub gave_awaiter : (values : Values F T) (p q : Position) (l l' : List (ℕ × TaskPlace F T A)) → has_work q ≡ has_work p → owns_awaiter p ≡ true → owns_awaiter q ≡ false → Carried values p q l l' → l' ≡ rest l
+  gave_awaiter values p q l l' e f g x = carries_back values (has_work p) q l l' (at values p q l l' (has_work p) (has_work p) true false refl e f g x)
 
-  pub took_work : {values : Values F T} (p q : Position) (l l' : List (ℕ × TaskPlace F T A)) → has_work p ≡ false → has_work q ≡ true → Carried values p q l l' → Works values q l l'
-  took_work p q l l' e f x = at p q l l' false true (owns_awaiter p) (owns_awaiter q) e f refl refl x
+  pub took_work : (values : Values F T) (p q : Position) (l l' : List (ℕ × TaskPlace F T A)) → has_work p ≡ false → has_work q ≡ true → Carried values p q l l' → Works values q l l'
+  took_work values p q l l' e f x = at values p q l l' false true (owns_awaiter p) (owns_awaiter q) e f refl refl x
 
-  pub gave_work : {values : Values F T} (p q : Position) (l l' : List (ℕ × TaskPlace F T A)) → has_work p ≡ true → has_work q ≡ false → Carried values p q l l' → l' ≡ rest l
-  gave_work p q l l' e f x = at p q l l' true false (owns_awaiter p) (owns_awaiter q) e f refl refl x
+  pub gave_work : (values : Values F T) (p q : Position) (l l' : List (ℕ × TaskPlace F T A)) → has_work p ≡ true → has_work q ≡ false → Carried values p q l l' → l' ≡ rest l
+  gave_work values p q l l' e f x = at values p q l l' true false (owns_awaiter p) (owns_awaiter q) e f refl refl x
 
   -- another value is put into the place in front, which has the number k and such a value
   module _ {X : Type 0} (k : ℕ) (lies : X → TaskPlace F T A) (value : X → TaskPlace F T A → X) (is_value : (z x : X) → value z (lies x) ≡ x) where

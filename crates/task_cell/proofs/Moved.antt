@@ -12,13 +12,13 @@ module _ {F T A : Type 0} where
   pub record Moved (values : Values F T) (acts : List Act) (w : State) (at : Position) (held : List (ℕ × TaskPlace F T A)) (p q : Party F T A) : Type 0 where
     pub slots : Slots
     pub viewed : q.seat.me.0 ≡ acted w slots acts (view (limit_of p) (member at (deeds p) ∷ []))
-    pub carried : {values : Values F T} → Carried values at (head_of (acted w slots acts (view (limit_of p) (member at (deeds p) ∷ []))).members).at held q.seat.me.1
+    pub carried : Carried values at (head_of (acted w slots acts (view (limit_of p) (member at (deeds p) ∷ []))).members).at held q.seat.me.1
 
   pub moved : {values : Values F T} (acts : List Act) (w : State) (at : Position) (held : List (ℕ × TaskPlace F T A)) (p q : Party F T A) → StandsWith at held p → Makes values acts w p.seat.me q.seat.me → Moved values acts w at held p q
   moved {values = values} acts w at held p q s m = let viewed = m.viewed ∙ ap (λ x. acted w m.slots acts x.0) s in record {
     slots = m.slots;
     viewed = viewed;
-    carried {values = values} = subst (λ (z : Position × Position × List (ℕ × TaskPlace F T A)). Carried values z.0 z.1 z.2 q.seat.me.1)
+    carried = subst (λ (z : Position × Position × List (ℕ × TaskPlace F T A)). Carried values z.0 z.1 z.2 q.seat.me.1)
         (λ i. (ap (λ (x : Me (TaskPlace F T A) View). (head_of x.0.members).at) s i, ap (λ (v : View). (head_of v.members).at) viewed i, ap (λ (x : Me (TaskPlace F T A) View). x.1) s i)) m.carried;
   }
 

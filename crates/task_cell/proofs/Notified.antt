@@ -31,14 +31,14 @@ module _ {F T A : Type 0} where
   missed {values = values} way held p q w s cell made is =
       let m = moved.moved (MissNotify ∷ []) w (Notifier way) held p q s (subst (λ b. Makes values (if b then MissNotify ∷ [] else BeginNotify ∷ TakeAwaiter ∷ []) w p.seat.me q.seat.me) is made) in
       finds_another w is (as_said p q (row MissNotify w ∷ []) None way held s (moved.did p q (row MissNotify w ∷ []) (after_taking None way) held cell m.viewed
-      (keeps_places (Notifier way) (after_taking None way) held q.seat.me.1 (on_work None way) (on_free None way) m.carried)))
+      (keeps_places values (Notifier way) (after_taking None way) held q.seat.me.1 (on_work None way) (on_free None way) m.carried)))
 
   pub taken : {values : Values F T} (way : NotifyingCall) (held : List (ℕ × TaskPlace F T A)) (p q : Party F T A) (w : State) → StandsWith (Notifier way) held p → q.seat.block ≡ p.seat.block
       → Makes values (taking_awaiter w) w p.seat.me q.seat.me → (w.notifying || w.registering) ≡ false → BeginsNotify p q true
   taken {values = values} way held p q w s cell made is =
       let m = moved.moved (BeginNotify ∷ TakeAwaiter ∷ []) w (Notifier way) held p q s (subst (λ b. Makes values (if b then MissNotify ∷ [] else BeginNotify ∷ TakeAwaiter ∷ []) w p.seat.me q.seat.me) is made) in
       let hand : Option ℕ = m.slots.awaiter in
-      let y = took_awaiter (Notifier way) (Releaser hand way) held q.seat.me.1 (same_way hand way) refl refl m.carried in
+      let y = took_awaiter values (Notifier way) (Releaser hand way) held q.seat.me.1 (same_way hand way) refl refl m.carried in
       let did = moved.did p q (row BeginNotify w ∷ act TakeAwaiter ∷ []) (Releaser hand way) (awaiter_first y.0 held) cell m.viewed y.2 in
       takes_place w hand y.0 (free w.notifying w.registering is) y.1
       (subst (λ (z : NotifyingCall × List (ℕ × TaskPlace F T A)). DidWith (row BeginNotify w ∷ act TakeAwaiter ∷ []) (Releaser hand z.0) (awaiter_first y.0 z.1) p q)
@@ -56,11 +56,11 @@ module _ {F T A : Type 0} where
       is_so : (b : Bool) → not b ≡ false → b ≡ true
       is_so b e = grind arith
 
-  released {values = values} : {values : Values F T} (hand : Option ℕ) (way : NotifyingCall) (y : Option A) (held : List (ℕ × TaskPlace F T A)) (p q : Party F T A) (w : State) → StandsWith (Releaser hand way) (awaiter_first y held) p → q.seat.block ≡ p.seat.block
+  released : {values : Values F T} (hand : Option ℕ) (way : NotifyingCall) (y : Option A) (held : List (ℕ × TaskPlace F T A)) (p q : Party F T A) (w : State) → StandsWith (Releaser hand way) (awaiter_first y held) p → q.seat.block ≡ p.seat.block
       → Makes values (releasing_awaiter w) w p.seat.me q.seat.me → DidWith (row EndNotify w ∷ []) (after_taking hand way) held p q
-  released hand way y held p q w s cell made =
+  released {values = values} hand way y held p q w s cell made =
       let m = moved.moved (EndNotify ∷ []) w (Releaser hand way) (awaiter_first y held) p q s made in
-      moved.did p q (row EndNotify w ∷ []) (after_taking hand way) held cell m.viewed (gave_awaiter (Releaser hand way) (after_taking hand way) (awaiter_first y held) q.seat.me.1 (on_work hand way ∙ sym (same_way hand way)) refl (on_free hand way) m.carried)
+      moved.did p q (row EndNotify w ∷ []) (after_taking hand way) held cell m.viewed (gave_awaiter values (Releaser hand way) (after_taking hand way) (awaiter_first y held) q.seat.me.1 (on_work hand way ∙ sym (same_way hand way)) refl (on_free hand way) m.carried)
 
   -- what lay there was taken out, and the place given back
   pub ended : {values : Values F T} (hand : Option ℕ) (way : NotifyingCall) (y x : Option A) (held' : List (ℕ × TaskPlace F T A)) (p q r : Party F T A) (v : State) (found : Option (Held A)) → Waits hand y

@@ -9,33 +9,41 @@ use Rattle.task_cell.specs.PollPaths as paths
 use Rattle.task_cell.proofs.PollWays.{ends, then_goes, claimed_out}
 
 module _ {F T A : Type 0} where
+  -- a look that has found no output
+  abbrev pub SeesNone : State → Party F T A → Party F T A → Type 0
+  SeesNone w p q = (has_output w ≡ false) × Did (row Look w ∷ []) (first_look w (poll_number (position p))) p q
+
   -- a look, by its answer
   abbrev pub Seen : Values F T → Party F T A → Party F T A → Result State State → Type 0
   Seen values p q (Ok w) = ClaimsOutput values w (row ClaimOutput w ∷ []) p q
-  Seen values p q (Err w) = (has_output w ≡ false) × Did (row Look w ∷ []) (first_look w (poll_number (position p))) p q
+  Seen values p q (Err w) = SeesNone w p q
 
   pub seen : {values : Values F T} (p q : Party F T A) (x : Result State State) → Looks values p q x → Seen values p q x
   seen p q (Ok w) (claims_output _ c) = c
   seen p q (Err w) (sees_none _ e g) = (e, g)
 
   -- .. by whether it found the task ended
-  pub saw : {values : Values F T} (w : State) (p q : Party F T A) (b : Bool) → Seen values p q (Err w) → has_ended w ≡ b → Did (row Look w ∷ []) (if b then Notifier (OfPoll (poll_number (position p))) else Registrar (poll_number (position p))) p q
+  pub saw : (w : State) (p q : Party F T A) (b : Bool) → SeesNone w p q → has_ended w ≡ b → Did (row Look w ∷ []) (if b then Notifier (OfPoll (poll_number (position p))) else Registrar (poll_number (position p))) p q
   saw w p q b s h = let n : ℕ = poll_number (position p) in subst (λ at. Did (row Look w ∷ []) at p q) (ap (λ (b : Bool). if b then Notifier (OfPoll n) else Registrar n) h) s.1
 
-  -- the look of a poll that has registered
+  -- the look of a poll that has registered, and has found no output
+  abbrev pub SeesNoneAgain : State → Party F T A → Party F T A → Type 0
+  SeesNoneAgain w p q = ((has_to_wait w ≡ true) × Did (row Look w ∷ act EndCall ∷ []) (ends (position p)) p q) ⊎ ((has_to_wait w ≡ false) × (has_ended w ≡ true) × Did (row Look w ∷ []) (Notifier (OfPoll (poll_number (position p)))) p q)
+
+  -- .. by its answer
   abbrev pub SeenAgain : Values F T → Party F T A → Party F T A → Result State State → Type 0
   SeenAgain values p q (Ok w) = ClaimsOutput values w (row Look w ∷ row ClaimOutput w ∷ []) p q
-  SeenAgain values p q (Err w) = ((has_to_wait w ≡ true) × Did (row Look w ∷ act EndCall ∷ []) (ends (position p)) p q) ⊎ ((has_to_wait w ≡ false) × (has_ended w ≡ true) × Did (row Look w ∷ []) (Notifier (OfPoll (poll_number (position p)))) p q)
+  SeenAgain values p q (Err w) = SeesNoneAgain w p q
 
   pub seen_again : {values : Values F T} (p q : Party F T A) (x : Result State State) → LooksAgain values p q x → SeenAgain values p q x
   seen_again p q (Ok w) (claims_output_now _ c) = c
   seen_again p q (Err w) (has_to_wait_on _ e g) = inl (e, g)
   seen_again p q (Err w) (sees_end _ e f g) = inr (e, f, g)
 
-  pub waited : {values : Values F T} (w : State) (p q : Party F T A) → SeenAgain values p q (Err w) → has_to_wait w ≡ true → Did (row Look w ∷ act EndCall ∷ []) (ends (position p)) p q
+  pub waited : (w : State) (p q : Party F T A) → SeesNoneAgain w p q → has_to_wait w ≡ true → Did (row Look w ∷ act EndCall ∷ []) (ends (position p)) p q
   waited w p q s f = ⊎_elim (λ x. x.1) (λ x. never (sym x.0 ∙ f)) s
 
-  pub saw_end : {values : Values F T} (w : State) (p q : Party F T A) → SeenAgain values p q (Err w) → has_to_wait w ≡ false → (has_ended w ≡ true) × Did (row Look w ∷ []) (Notifier (OfPoll (poll_number (position p)))) p q
+  pub saw_end : (w : State) (p q : Party F T A) → SeesNoneAgain w p q → has_to_wait w ≡ false → (has_ended w ≡ true) × Did (row Look w ∷ []) (Notifier (OfPoll (poll_number (position p)))) p q
   saw_end w p q s f = ⊎_elim (λ x. never (sym f ∙ x.0)) (λ x. (x.1, x.2)) s
 
   module _ {K : Type 0} (cloned : A → Result A K → Type 0) (woken woken_by_ref : A → K → Type 0) (compared : A → A → Bool → Type 0) (awaiter : A) where

@@ -27,7 +27,7 @@ finds_end i false busy false e f = absurd (cc)
 
 module _ {F T A : Type 0} where
   -- the seat after acts that lead to this position, and add no party
-  went {values = values} : {values : Values F T} (acts : List Act) (w : State) (at at' : Position) (held : List (ℕ × TaskPlace F T A)) (path : List Deed) (p q : Party F T A) → StandsWith at held p → q.seat.block ≡ p.seat.block → (m : Makes values acts w p.seat.me q.seat.me)
+  went : {values : Values F T} (acts : List Act) (w : State) (at at' : Position) (held : List (ℕ × TaskPlace F T A)) (path : List Deed) (p q : Party F T A) → StandsWith at held p → q.seat.block ≡ p.seat.block → (m : Makes values acts w p.seat.me q.seat.me)
       → next_of (leaves_by (limit_of p) w m.slots acts at) ≡ at' → born_of (leaves_by (limit_of p) w m.slots acts at) ≡ [] → noted w acts (deeds p) ≡ after path (deeds p)
       → Carried values at at' held q.seat.me.1 × DidWith path at' q.seat.me.1 p q
   went {values = values} acts w at at' held path p q s cell m to none is = let viewed = m.viewed ∙ ap (λ x. acted w m.slots acts x.0) s in (
@@ -46,15 +46,15 @@ module _ {F T A : Type 0} where
       finds_one w e.at_end (subst (λ at. Did path (UnusedClone (poll_number at)) p q) (sym (position_is p (Registrar i) [] s)) (subst (λ l. DidWith path (UnusedClone i) l p q) g.0 g.1))
 
   -- the slot that is taken, by what stood in it
-  carried_slot {values = values} : {values : Values F T} (i : ℕ) (hand : Option ℕ) (l' : List (ℕ × TaskPlace F T A)) → Carried values (Registrar i) (after_storing i hand) [] l' → (y : Option A) × Waits hand y × (l' ≡ awaiter_first y [])
-  carried_slot i None l' c = c
-  carried_slot i (Some old) l' c = c
+  carried_slot : (values : Values F T) (i : ℕ) (hand : Option ℕ) (l' : List (ℕ × TaskPlace F T A)) → Carried values (Registrar i) (after_storing i hand) [] l' → (y : Option A) × Waits hand y × (l' ≡ awaiter_first y [])
+  carried_slot values i None l' c = c
+  carried_slot values i (Some old) l' c = c
 
   pub begun : {values : Values F T} (limit i : ℕ) (r : Unit {0}) (p q : Party F T A) → Stands (Registrar i) p → q.seat.block ≡ p.seat.block → HasChanged values limit to_begin_register r p.seat.me q.seat.me → BeginsRegister p q true
-  begun limit i r p q s cell c = let m = c.made in let w = c.word in
+  begun {values = values} limit i r p q s cell c = let m = c.made in let w = c.word in
       let path : List Deed = act CloneAwaiter ∷ row BeginRegister w ∷ act StoreAwaiter ∷ [] in let hand : Option ℕ = m.slots.awaiter in
       let g = went (CloneAwaiter ∷ BeginRegister ∷ StoreAwaiter ∷ []) w (Registrar i) (after_storing i hand) [] path p q s cell m refl refl refl in
-      let y = carried_slot i hand q.seat.me.1 g.0 in
+      let y = carried_slot values i hand q.seat.me.1 g.0 in
       begins w hand y.0 (not_true w.notifying c.applied) y.1 (subst (λ at. DidWith path (after_storing (poll_number at) hand) (awaiter_first y.0 []) p q) (sym (position_is p (Registrar i) [] s)) (subst (λ l. DidWith path (after_storing i hand) l p q) y.2 g.1))
 
   -- the slot is given back
@@ -84,11 +84,11 @@ module _ {F T A : Type 0} where
       finds_notified (subst (λ (z : Position × List (ℕ × TaskPlace F T A)). DidWith path (TookBack (poll_number z.0)) z.1 p q) (λ j. (sym (position_is p (Registered i) held s) j, sym (held_is p (Registered i) held s) j)) (subst (λ l. DidWith path (TookBack i) l p q) g.0 g.1))
 
   -- the places of the output, once it was claimed
-  carried_output {values = values} : {values : Values F T} (b : Bool) (i : ℕ) (l : List (ℕ × TaskPlace F T A)) → Carries values false (has_work (notifies b (OfClaim i))) false (owns_awaiter (notifies b (OfClaim i))) (notifies b (OfClaim i)) [] l → TakesOutput values [] l
-  carried_output true i l c = c
-  carried_output false i l c = c
+  carried_output : (values : Values F T) (b : Bool) (i : ℕ) (l : List (ℕ × TaskPlace F T A)) → Carries values false (has_work (notifies b (OfClaim i))) false (owns_awaiter (notifies b (OfClaim i))) (notifies b (OfClaim i)) [] l → TakesOutput values [] l
+  carried_output values true i l c = c
+  carried_output values false i l c = c
 
-  claimed {values = values} : {values : Values F T} (w : State) (at : Position) (acts : List Act) (path : List Deed) (p q : Party F T A) → Stands at p → q.seat.block ≡ p.seat.block → (m : Makes values acts w p.seat.me q.seat.me) → has_output w ≡ true
+  claimed : {values : Values F T} (w : State) (at : Position) (acts : List Act) (path : List Deed) (p q : Party F T A) → Stands at p → q.seat.block ≡ p.seat.block → (m : Makes values acts w p.seat.me q.seat.me) → has_output w ≡ true
       → next_of (leaves_by (limit_of p) w m.slots acts at) ≡ notifies w.awaiter (OfClaim (poll_number at)) → born_of (leaves_by (limit_of p) w m.slots acts at) ≡ [] → noted w acts (deeds p) ≡ after path (deeds p)
       → (Carried values at (notifies w.awaiter (OfClaim (poll_number at))) [] q.seat.me.1 → TakesOutput values [] q.seat.me.1) → ClaimsOutput values w path p q
   claimed w at acts path p q s cell m there to none is takes = let g = went acts w at (notifies w.awaiter (OfClaim (poll_number at))) [] path p q s cell m to none is in let c = takes g.0 in record {
@@ -98,27 +98,27 @@ module _ {F T A : Type 0} where
     did = subst (λ at. DidWith path (notifies w.awaiter (OfClaim (poll_number at))) (work_first c.0 []) p q) (sym (position_is p at [] s)) (subst (λ l. DidWith path (notifies w.awaiter (OfClaim (poll_number at))) l p q) c.2 g.1);
   }
 
-  first_holds {values = values} : {values : Values F T} (w : State) (n : ℕ) (l : List (ℕ × TaskPlace F T A)) → Carried values (as_task n) (first_look w (n + 1)) [] l → l ≡ []
-  first_holds {values = values} w n l c = let f = first_free w (n + 1) in subst (λ (z : Bool × Bool). Carries values false z.0 false z.1 (first_look w (n + 1)) [] l) (λ j. (f.0 j, f.1 j)) c
+  first_holds : (values : Values F T) (w : State) (n : ℕ) (l : List (ℕ × TaskPlace F T A)) → Carried values (as_task n) (first_look w (n + 1)) [] l → l ≡ []
+  first_holds values w n l c = let f = first_free w (n + 1) in subst (λ (z : Bool × Bool). Carries values false z.0 false z.1 (first_look w (n + 1)) [] l) (λ j. (f.0 j, f.1 j)) c
 
   -- the first look of a poll
   pub looks_so : {values : Values F T} (limit n : ℕ) (x : Result State State) (p q : Party F T A) → Stands (as_task n) p → q.seat.block ≡ p.seat.block → IfOk x (λ w. HasChanged values limit to_look w p.seat.me q.seat.me)
       → IfErr x (λ w. HasEnded values limit to_look w p.seat.me q.seat.me) → Looks values p q x
   looks_so {values = values} limit n (Ok r) p q s cell c e = let w = c.word in subst (λ (v : State). Looks values p q (Ok v)) (sym c.is)
-      (claims_output w (claimed w (as_task n) (ClaimOutput ∷ []) (row ClaimOutput w ∷ []) p q s cell c.made c.applied refl refl refl (carried_output w.awaiter (n + 1) q.seat.me.1)))
-  looks_so limit n (Err w) p q s cell c e = let m = e.made in let l : ℕ = limit_of p in let path : List Deed = row Look w ∷ [] in
+      (claims_output w (claimed w (as_task n) (ClaimOutput ∷ []) (row ClaimOutput w ∷ []) p q s cell c.made c.applied refl refl refl (carried_output values w.awaiter (n + 1) q.seat.me.1)))
+  looks_so {values = values} limit n (Err w) p q s cell c e = let m = e.made in let l : ℕ = limit_of p in let path : List Deed = row Look w ∷ [] in
       let left : Bool → Option Outcome = (λ b. and_then (when b (leaves_slots (spot l (held_word (as_task n) w) m.slots) w (first_look (held_word (as_task n) w) (n + 1)) [] (TaskPollBegins (n + 1) ∷ []))) (λ o. leaves_by l o.word o.slots [] o.next)) in
       let g = went (Look ∷ []) w (as_task n) (first_look w (n + 1)) [] path p q s cell m (ap (λ b. next_of (left b)) e.at_end) (ap (λ b. born_of (left b)) e.at_end) refl in
-      sees_none w (not_true (has_output w) e.at_end) (subst (λ at. Did path (first_look w (poll_number at)) p q) (sym (position_is p (as_task n) [] s)) (subst (λ l. DidWith path (first_look w (n + 1)) l p q) (first_holds w n q.seat.me.1 g.0) g.1))
+      sees_none w (not_true (has_output w) e.at_end) (subst (λ at. Did path (first_look w (poll_number at)) p q) (sym (position_is p (as_task n) [] s)) (subst (λ l. DidWith path (first_look w (n + 1)) l p q) (first_holds values w n q.seat.me.1 g.0) g.1))
 
   -- .. which finds the task ended where one before it did
-  pub finds_it_ended : {values : Values F T} (limit : ℕ) (x : Result State State) (p q : Party F T A) → IfOk x (λ w. HasChanged values limit to_look w p.seat.me q.seat.me) → IfErr x (λ w. HasEnded values limit to_look w p.seat.me q.seat.me)
+  pub finds_it_ended : (values : Values F T) (limit : ℕ) (x : Result State State) (p q : Party F T A) → IfOk x (λ w. HasChanged values limit to_look w p.seat.me q.seat.me) → IfErr x (λ w. HasEnded values limit to_look w p.seat.me q.seat.me)
       → saw_ended (deeds p) ≡ true → (w : State) × (x ≡ Err w) × (has_ended w ≡ true)
-  finds_it_ended limit (Ok r) p q c e saw = not_both c.word (c.knows.ended saw) c.applied
-  finds_it_ended limit (Err w) p q c e saw = (w, refl, e.knows.ended saw)
+  finds_it_ended values limit (Ok r) p q c e saw = not_both c.word (c.knows.ended saw) c.applied
+  finds_it_ended values limit (Err w) p q c e saw = (w, refl, e.knows.ended saw)
 
   -- .. and the look of one that has registered
-  looked_again_in_vain {values = values} : {values : Values F T} (limit i : ℕ) (w : State) (p q : Party F T A) → Stands (Looking i) p → q.seat.block ≡ p.seat.block → HasEnded values limit to_look_again w p.seat.me q.seat.me → LooksAgain values p q (Err w)
+  looked_again_in_vain : {values : Values F T} (limit i : ℕ) (w : State) (p q : Party F T A) → Stands (Looking i) p → q.seat.block ≡ p.seat.block → HasEnded values limit to_look_again w p.seat.me q.seat.me → LooksAgain values p q (Err w)
   looked_again_in_vain {values = values} limit i w p q s cell e = by (has_to_wait w) refl
     where
       l : ℕ
@@ -127,11 +127,11 @@ module _ {F T A : Type 0} where
       left : Slots → List Act → Position → Option Outcome
       left slots acts at = and_then (Some (leaves_slots (spot l (held_word (Looking i) w) slots) w at [] [])) (λ o. leaves_by l o.word o.slots acts o.next)
 
-      by {values = values} : {values : Values F T} (b : Bool) → has_to_wait w ≡ b → LooksAgain values p q (Err w)
-      by {values = values} true f = let m = subst (λ b. Makes values (if b then Look ∷ EndCall ∷ [] else Look ∷ []) w p.seat.me q.seat.me) f e.made in let path : List Deed = row Look w ∷ act EndCall ∷ [] in
+      by : (b : Bool) → has_to_wait w ≡ b → LooksAgain values p q (Err w)
+      by true f = let m = subst (λ b. Makes values (if b then Look ∷ EndCall ∷ [] else Look ∷ []) w p.seat.me q.seat.me) f e.made in let path : List Deed = row Look w ∷ act EndCall ∷ [] in
           let is = has_waited w i f in let g = went (Look ∷ EndCall ∷ []) w (Looking i) (as_task i) [] path p q s cell m (ap (λ at. next_of (left m.slots (EndCall ∷ []) at)) is) (ap (λ at. born_of (left m.slots (EndCall ∷ []) at)) is) refl in
           has_to_wait_on w f (subst (λ at. Did path (as_task (poll_number at)) p q) (sym (position_is p (Looking i) [] s)) (subst (λ l. DidWith path (as_task i) l p q) g.0 g.1))
-      by {values = values} false f = let m = subst (λ b. Makes values (if b then Look ∷ EndCall ∷ [] else Look ∷ []) w p.seat.me q.seat.me) f e.made in let path : List Deed = row Look w ∷ [] in
+      by false f = let m = subst (λ b. Makes values (if b then Look ∷ EndCall ∷ [] else Look ∷ []) w p.seat.me q.seat.me) f e.made in let path : List Deed = row Look w ∷ [] in
           let is = finds_end i w.closed (w.scheduled || w.running) w.completed f (not_true (has_output w) e.at_end) in let g = went (Look ∷ []) w (Looking i) (Notifier (OfPoll i)) [] path p q s cell m (ap (λ at. next_of (left m.slots [] at)) is.0) (ap (λ at. born_of (left m.slots [] at)) is.0) refl in
           sees_end w f is.1 (subst (λ at. Did path (Notifier (OfPoll (poll_number at))) p q) (sym (position_is p (Looking i) [] s)) (subst (λ l. DidWith path (Notifier (OfPoll i)) l p q) g.0 g.1))
 
@@ -139,7 +139,7 @@ module _ {F T A : Type 0} where
       → IfErr x (λ w. HasEnded values limit to_look_again w p.seat.me q.seat.me) → LooksAgain values p q x
   looks_again_so {values = values} limit i (Ok r) p q s cell c e = let w = c.word in let m = c.made in let l : ℕ = limit_of p in let there = c.applied in
       let left : Position → Option Outcome = (λ at. and_then (Some (leaves_slots (spot l (held_word (Looking i) w) m.slots) w at [] [])) (λ o. leaves_by l o.word o.slots (ClaimOutput ∷ []) o.next)) in
-      subst (λ (v : State). LooksAgain values p q (Ok v)) (sym c.is) (claims_output_now w (claimed w (Looking i) (Look ∷ ClaimOutput ∷ []) (row Look w ∷ row ClaimOutput w ∷ []) p q s cell m there (ap (λ at. next_of (left at)) (sees_output w i there)) (ap (λ at. born_of (left at)) (sees_output w i there)) refl (carried_output w.awaiter i q.seat.me.1)))
+      subst (λ (v : State). LooksAgain values p q (Ok v)) (sym c.is) (claims_output_now w (claimed w (Looking i) (Look ∷ ClaimOutput ∷ []) (row Look w ∷ row ClaimOutput w ∷ []) p q s cell m there (ap (λ at. next_of (left at)) (sees_output w i there)) (ap (λ at. born_of (left at)) (sees_output w i there)) refl (carried_output values w.awaiter i q.seat.me.1)))
   looks_again_so limit i (Err w) p q s cell c e = looked_again_in_vain limit i w p q s cell e
 
 module _ (F T A : Type 0) (values : Values F T) (limit : ℕ) where

@@ -99,7 +99,7 @@ module _ {F T A : Type 0} where
       (ap closing_way (moved.position_is q (FutureGone closer) held (moved.stands p q [] (FutureGone closer) held g))) h)
 
   -- a Runnable's drop from p, step after step: to a with the future taken over, to b with it taken out, to o with SCHEDULED cleared
-  module _ (p a b : Party F T A) (start : (d : Deed) × (y : Slot F T) × DiscardStart d × DidWith (d ∷ act DropFuture ∷ []) (FutureGone DroppedRunnable) (work_first y []) p a × IsFuture values y)
+  module _ (values : Values F T) (p a b : Party F T A) (start : (d : Deed) × (y : Slot F T) × DiscardStart d × DidWith (d ∷ act DropFuture ∷ []) (FutureGone DroppedRunnable) (work_first y []) p a × IsFuture values y)
       (take : (at : Position) (y : Slot F T) (held : List (ℕ × TaskPlace F T A)) → StandsWith at (work_first y held) a → DidWith [] at (work_first Empty held) a b) where
     pub drop_clears : DidWith [] (FutureGone DroppedRunnable) (work_first Empty []) a b
     drop_clears = take (FutureGone DroppedRunnable) start.1 [] (moved.stands p a (start.0 ∷ act DropFuture ∷ []) (FutureGone DroppedRunnable) (work_first start.1 []) start.3)

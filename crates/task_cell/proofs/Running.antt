@@ -19,18 +19,18 @@ module _ {F T A : Type 0} where
     pub did : DidWith (row TakeUpClosed word ∷ act DropFuture ∷ []) (FutureGone ClosedRun) (work_first place []) p q
 
   -- .. and one that is
-  pub record Started (p q : Party F T A) : Type 0 where
+  pub record Started (values : Values F T) (p q : Party F T A) : Type 0 where
     pub word : State
     pub place : Slot F T
     pub unclosed : word.closed ≡ false
-    pub future : {values : Values F T} → IsFuture values place
+    pub future : IsFuture values place
     pub did : DidWith (row StartRun word ∷ act StartPoll ∷ []) Polling (work_first place []) p q
 
   pub shut : {values : Values F T} (p q : Party F T A) (b : Bool) → TakesUp values p q b → b ≡ false → Shut p q
   shut p q b (finds_closed w y e f g) is = record { word = w; place = y; closed = e; did = g }
   shut p q b (starts w y e f g) is = absurd (cc)
 
-  pub started : {values : Values F T} (p q : Party F T A) (b : Bool) → TakesUp values p q b → b ≡ true → Started p q
+  pub started : {values : Values F T} (p q : Party F T A) (b : Bool) → TakesUp values p q b → b ≡ true → Started values p q
   started p q b (finds_closed w y e f g) is = absurd (cc)
   started p q b (starts w y e f g) is = record { word = w; place = y; unclosed = e; future = f; did = g }
 
@@ -62,8 +62,8 @@ module _ {F T A : Type 0} where
     pub run_closed : (p q r : Party F T A) → Shut p q → Closes Woken q r → (path : List Deed) × RunPath Polled Woken Scheduled false path × Did path as_ended p r
     run_closed p q r s c = (row TakeUpClosed s.word ∷ act DropFuture ∷ c.0, closed_path s.word (act DropFuture ∷ c.0) s.closed c.1, moved.did_then p q r _ _ _ _ _ _ s.did c.2)
 
-    pub run_ready : (p q t : Party F T A) (s : Started p q) (v : Poll O) (x : O) → v ≡ Answered x → Polled v → EndsReady Woken q t → (path : List Deed) × RunPath Polled Woken Scheduled false path × Did path as_ended p t
+    pub run_ready : {values : Values F T} (p q t : Party F T A) (s : Started values p q) (v : Poll O) (x : O) → v ≡ Answered x → Polled v → EndsReady Woken q t → (path : List Deed) × RunPath Polled Woken Scheduled false path × Did path as_ended p t
     run_ready p q t s v x is fact e = (row StartRun s.word ∷ act StartPoll ∷ e.0, answers_ready s.word x e.0 s.unclosed (subst Polled is fact) e.1, moved.did_then p q t _ _ _ _ _ _ s.did e.2)
 
-    pub run_pending : (p q t : Party F T A) (s : Started p q) (v : Poll O) → v ≡ Unready → (b : Bool) → Polled v → EndsUnready Woken Scheduled b q t → (path : List Deed) × RunPath Polled Woken Scheduled b path × Did path as_ended p t
+    pub run_pending : {values : Values F T} (p q t : Party F T A) (s : Started values p q) (v : Poll O) → v ≡ Unready → (b : Bool) → Polled v → EndsUnready Woken Scheduled b q t → (path : List Deed) × RunPath Polled Woken Scheduled b path × Did path as_ended p t
     run_pending p q t s v is b fact e = (row StartRun s.word ∷ act StartPoll ∷ e.0, answers_pending s.word b e.0 s.unclosed (subst Polled is fact) e.1, moved.did_then p q t _ _ _ _ _ _ s.did e.2)

@@ -1,6 +1,6 @@
 -- Whose share is left, or was brought, by what a step found.
 use Rattle.task_cell.proofs.Vocabulary.{◌≡◌, ℕ, Bool, not, arith, nat_lt, nat_eq}
-use Rattle.task_cell.proofs.Vocabulary.{◌∙◌}
+use Rattle.task_cell.proofs.Vocabulary.{◌∙◌, ap}
 use Rattle.task_core.specs.declared.traits.Yields.{Ghosts}
 use Rattle.task_cell.specs.declared.cell.block.Share.{Share}
 use Rattle.task_cell.specs.declared.cell.block.MaybeShare.{MaybeShare}

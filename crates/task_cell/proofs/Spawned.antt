@@ -1,17 +1,13 @@
 -- The rule at the spawn and at the end.
 use Rattle.task_steps.specs.Values.{Values}
-use Rattle.task_cell.proofs.Vocabulary.{◌≡◌, ℕ, zero, suc, ◌≢◌, Bool, true, false, List, [], ◌∷◌, ◌++◌, length, get_or, set, sym, refl, ap, ◌∙◌, subst, inr, ⊎_elim, arith, length-set}
-use Rattle.task_cell.proofs.Vocabulary.{get_or-set_same, some, none, some-injective, some-ne-none, Me, gives, stepped, carried_after, rest, Valid, Allows, Splits, Final, Seen, number_of, Position, At}
-use Rattle.task_cell.proofs.Vocabulary.{Runnable, Task, Slot, Member, View, Party, member, view, fresh, laid_view, filling_view, opening_view, IsFuture, IsEmpty, Waits, opening_at, Explains, Running}
-use Rattle.task_cell.proofs.Vocabulary.{RuleHolds, deeds, limit_of, StandsWith, Witness, Witnesses, tells, state_of, law, queued, leaves, retold, staged_more, first_more, never, TaskPlace, work_first, First, WorkAtHome, future_lies, None, Second, Option}
-use mathlib.Core.Logic.{dite}
-use native.Mathlib.Decide.{ℕ_discrete}
+use Rattle.task_cell.proofs.Vocabulary.{◌≡◌, ℕ, zero, suc, ◌≢◌, true, List, [], ◌∷◌, ◌++◌, get_or, set, sym, refl, ap, ◌∙◌, subst, arith}
+use Rattle.task_cell.proofs.Vocabulary.{some, none, some-injective, some-ne-none, Me, Splits, Final, Seen, Position, At}
+use Rattle.task_cell.proofs.Vocabulary.{Runnable, Task, Slot, Member, View, Party, member, view, fresh, opening_view, IsEmpty, Waits, Explains}
+use Rattle.task_cell.proofs.Vocabulary.{RuleHolds, deeds, limit_of, StandsWith, Witness, Witnesses, tells, state_of, leaves, retold, TaskPlace, First, None, Second, Option}
 use lib.ListN.{get_elem?}
-use Rattle.atomic_table.specs.Table.{State as Board, Act, takes}
-use Rattle.task_steps.specs.declared.table.Stage.{Stage}
-use Rattle.task_steps.specs.declared.table.Stage.TheVariants.{Laid, Filling, Spawned}
+use Rattle.atomic_table.specs.Table.{State as Board}
 use Rattle.task_steps.specs.Spawns.{opening_runnable, opening_task}
-use Rattle.task_steps.proofs.Explains.{inside, regroups}
+use Rattle.task_steps.proofs.Explains.{inside}
 use Rattle.task_steps.proofs.Left.{empty_at_close}
 use Rattle.task_steps.specs.Shares.{has_emptied}
 use Rattle.atomic_table.proofs.Lists as lists

@@ -96,16 +96,16 @@ module _ {F T A : Type 0} where
   unclaimed_shared p q true is x = absurd (cc)
   unclaimed_shared p q false is x = (act DropOutput ∷ row Detach x.0 ∷ act EndCall ∷ [], leaves_others x.0 x.1, x.2)
 
-  pub detaches_unclaimed : {values : Values F T} (Scheduled : Type 0) (p q r : Party F T A) → Detaches values p q Unclaimed → LeavesUnclaimed q r → Detaching Scheduled p r
-  detaches_unclaimed Scheduled p q r x y = (row GiveUpOutput x.0 ∷ y.0, unclaimed_path Scheduled x.0 y.0 x.2 y.1, did_then p q r (row GiveUpOutput x.0 ∷ []) y.0 OutputCloser as_ended (work_first x.1 []) [] x.4 y.2)
+  pub detaches_unclaimed : (values : Values F T) (Scheduled : Type 0) (p q r : Party F T A) → Detaches values p q Unclaimed → LeavesUnclaimed q r → Detaching Scheduled p r
+  detaches_unclaimed values Scheduled p q r x y = (row GiveUpOutput x.0 ∷ y.0, unclaimed_path Scheduled x.0 y.0 x.2 y.1, did_then p q r (row GiveUpOutput x.0 ∷ []) y.0 OutputCloser as_ended (work_first x.1 []) [] x.4 y.2)
 
-  pub detaches_shared : {values : Values F T} (Scheduled : Type 0) (p q : Party F T A) → Detaches values p q Shared → Detaching Scheduled p q
-  detaches_shared Scheduled p q x = (row Detach x.0 ∷ act EndCall ∷ [], is_shared x.0 x.1, x.2)
+  pub detaches_shared : (values : Values F T) (Scheduled : Type 0) (p q : Party F T A) → Detaches values p q Shared → Detaching Scheduled p q
+  detaches_shared values Scheduled p q x = (row Detach x.0 ∷ act EndCall ∷ [], is_shared x.0 x.1, x.2)
 
   -- a closed task has no other handle
-  pub detaches_last : {values : Values F T} (Scheduled : Type 0) (p q r : Party F T A) → Detaches values p q Last → Empties q r → Detaching Scheduled p r
-  detaches_last Scheduled p q r x e = (row DetachLast x.0 ∷ act EmptySlots ∷ act EndCall ∷ [], is_last x.0 x.2, empties p q r (row DetachLast x.0 ∷ []) x.1 x.3 e)
+  pub detaches_last : (values : Values F T) (Scheduled : Type 0) (p q r : Party F T A) → Detaches values p q Last → Empties q r → Detaching Scheduled p r
+  detaches_last values Scheduled p q r x e = (row DetachLast x.0 ∷ act EmptySlots ∷ act EndCall ∷ [], is_last x.0 x.2, empties p q r (row DetachLast x.0 ∷ []) x.1 x.3 e)
 
   -- an open task has no other handle
-  pub detaches_orphaned : {values : Values F T} (Scheduled : Type 0) (p q r : Party F T A) → Detaches values p q Orphaned → Scheduled → Did (act HandOver ∷ act EndCall ∷ []) as_ended q r → Detaching Scheduled p r
-  detaches_orphaned Scheduled p q r x fact h = (row DetachOrphan x.0 ∷ act HandOver ∷ act EndCall ∷ [], is_orphaned x.0 x.1 fact, did_then p q r (row DetachOrphan x.0 ∷ []) (act HandOver ∷ act EndCall ∷ []) (Deliverer false (ThenEnds Nothing)) as_ended [] [] x.2 h)
+  pub detaches_orphaned : (values : Values F T) (Scheduled : Type 0) (p q r : Party F T A) → Detaches values p q Orphaned → Scheduled → Did (act HandOver ∷ act EndCall ∷ []) as_ended q r → Detaching Scheduled p r
+  detaches_orphaned values Scheduled p q r x fact h = (row DetachOrphan x.0 ∷ act HandOver ∷ act EndCall ∷ [], is_orphaned x.0 x.1 fact, did_then p q r (row DetachOrphan x.0 ∷ []) (act HandOver ∷ act EndCall ∷ []) (Deliverer false (ThenEnds Nothing)) as_ended [] [] x.2 h)

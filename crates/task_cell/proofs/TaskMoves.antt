@@ -29,8 +29,8 @@ noticed Woken due found n k (none_there w v f) nobody = found_none w v f
 noticed Woken due found n k (taken w v f) (woken fact) = woke w v f fact
 
 module _ {F T A : Type 0} where
-  bare : (a b : Bool) (q : Position) (l : List (ℕ × TaskPlace F T A)) → a ≡ false → b ≡ false → Carries {F = F} {T = T} {A = A} false a false b q [] l → l ≡ []
-  bare a b q l e f c = subst (λ (z : Bool × Bool). Carries {F = F} {T = T} {A = A} false z.0 false z.1 q [] l) (λ i. (e i, f i)) c
+  bare : (values : Values F T) (a b : Bool) (q : Position) (l : List (ℕ × TaskPlace F T A)) → a ≡ false → b ≡ false → Carries {A = A} values false a false b q [] l → l ≡ []
+  bare values a b q l e f c = subst (λ (z : Bool × Bool). Carries {A = A} values false z.0 false z.1 q [] l) (λ i. (e i, f i)) c
 
   -- a cancel of a task that is over
   pub looks_over : {values : Values F T} (limit : ℕ) (p q : Party F T A) (n : ℕ) (w : State) → Stands (as_task n) p → q.seat.block ≡ p.seat.block → HasEnded values limit to_cancel w p.seat.me q.seat.me → Cancels n p q None
@@ -44,11 +44,11 @@ module _ {F T A : Type 0} where
       w : State
       w = c.word
 
-      made : {values : Values F T} (b : Bool) → found 0 CancelIdle w ≡ b → Makes values (closing (if b then Idle w.awaiter else Busy w.awaiter)) w p.seat.me q.seat.me → Cancels n p q (Some (if b then Idle w.awaiter else Busy w.awaiter))
+      made : (b : Bool) → found 0 CancelIdle w ≡ b → Makes values (closing (if b then Idle w.awaiter else Busy w.awaiter)) w p.seat.me q.seat.me → Cancels n p q (Some (if b then Idle w.awaiter else Busy w.awaiter))
       made true fit m = let x = moved (CancelIdle ∷ []) w (At (Task n)) [] p q s m in
           (w, refl, fit, did p q (row CancelIdle w ∷ []) (Deliverer false (after_cancelling w.awaiter n)) [] cell x.viewed x.carried)
       made false unfit m = let x = moved (CancelBusy ∷ []) w (At (Task n)) [] p q s m in let at : Position = notifies w.awaiter (OfCancel n) in let i = idle_cancel w.awaiter n in
-          (w, refl, busy_fits (is_open w) w.scheduled w.running c.applied unfit, did p q (row CancelBusy w ∷ []) at [] cell x.viewed (bare (has_work at) (owns_awaiter at) at q.seat.me.1 i.0 i.1 x.carried))
+          (w, refl, busy_fits (is_open w) w.scheduled w.running c.applied unfit, did p q (row CancelBusy w ∷ []) at [] cell x.viewed (bare values (has_work at) (owns_awaiter at) at q.seat.me.1 i.0 i.1 x.carried))
 
   -- the row of a detach
   pub gives_up : {values : Values F T} (limit : ℕ) (p q : Party F T A) (n : ℕ) (r : Detached) → Stands (as_task n) p → q.seat.block ≡ p.seat.block → HasChanged values limit to_detach r p.seat.me q.seat.me → Detaches values p q r
@@ -57,7 +57,7 @@ module _ {F T A : Type 0} where
       w : State
       w = c.word
 
-      made : {values : Values F T} (a b c : Bool) → found 0 Detach w ≡ a → found 0 DetachLast w ≡ b → found 0 DetachOrphan w ≡ c
+      made : (a b c : Bool) → found 0 Detach w ≡ a → found 0 DetachLast w ≡ b → found 0 DetachOrphan w ≡ c
           → Makes values (detaching (if a then Shared else (if b then Last else (if c then Orphaned else Unclaimed)))) w p.seat.me q.seat.me
           → Detaches values p q (if a then Shared else (if b then Last else (if c then Orphaned else Unclaimed)))
       made true b c fit y z m = let x = moved (Detach ∷ EndCall ∷ []) w (At (Task n)) [] p q s m in
@@ -76,7 +76,7 @@ module _ {F T A : Type 0} where
       tests : (k : ℕ) → not (nat_lt 0 k) ≡ nat_eq k 0
       tests k = grind (arith, nat_tests)
 
-      made : {values : Values F T} (b : Bool) → nat_lt 0 w.references ≡ b → Makes values (if b then Detach ∷ EndCall ∷ [] else DetachLast ∷ []) w q.seat.me r.seat.me → GivesTaskUp p r (not b)
+      made : (b : Bool) → nat_lt 0 w.references ≡ b → Makes values (if b then Detach ∷ EndCall ∷ [] else DetachLast ∷ []) w q.seat.me r.seat.me → GivesTaskUp p r (not b)
       made true counted m = let x = moved (Detach ∷ EndCall ∷ []) w Detacher [] q r (stands p q (act DropOutput ∷ []) Detacher [] g) m in
           let path : List Deed = row Detach w ∷ act EndCall ∷ [] in (
             w,
@@ -110,7 +110,7 @@ module _ {F T A : Type 0} where
 module _ (F T A : Type 0) (values : Values F T) (limit : ℕ) where
   -- the rule allows a Task to cancel, and to be detached
   pub may_cancel : (p : Party F T A) (n : ℕ) → Stands (as_task n) p → MayTry values limit 2 p.seat.id p.seat.me to_cancel × MayBring values limit p.seat.id p.seat.me to_cancel
-  may_cancel p n s = may_bring_at limit p (At (Task n)) [] s to_cancel (λ w. refl) (cancels F T A values limit n (deeds p) [] []) (cancels_task limit n (deeds p) [] F T A) (finds_over F T A values limit n (deeds p) [] [])
+  may_cancel p n s = may_bring_at limit p (At (Task n)) [] s to_cancel (λ w. refl) (cancels F T A values limit n (deeds p) [] []) (cancels_task limit n (deeds p) [] F T A values) (finds_over F T A values limit n (deeds p) [] [])
 
   pub may_detach : (p : Party F T A) (n : ℕ) → Stands (as_task n) p → MayTry values limit 2 p.seat.id p.seat.me to_detach × MayGive values limit p.seat.id p.seat.me to_detach
-  may_detach p n s = may_give_at limit p (At (Task n)) [] s to_detach (λ w. refl) (detaches F T A values limit n (deeds p) [] []) (detaches_task limit n (deeds p) [] F T A) (never_ends F T A values limit to_detach (At (Task n)) (deeds p) [] [] (λ w. refl))
+  may_detach p n s = may_give_at limit p (At (Task n)) [] s to_detach (λ w. refl) (detaches F T A values limit n (deeds p) [] []) (detaches_task limit n (deeds p) [] F T A values) (never_ends F T A values limit to_detach (At (Task n)) (deeds p) [] [] (λ w. refl))

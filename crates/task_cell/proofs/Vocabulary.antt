@@ -79,7 +79,7 @@ pub use Rattle.task_steps.specs.Deeds.{act, after, row}
 pub use Rattle.task_steps.specs.Held.{held}
 pub use Rattle.task_steps.specs.PollScripts.{has_ended, has_output, has_to_wait}
 pub use Rattle.task_steps.specs.Rule.{Explains, IsEmpty, IsFuture, IsOutput, RuleHolds, Running, Waits, fresh, has_work}
-pub use Rattle.task_steps.specs.Rule.{TaskPlace, WorkAtHome, member, opening_at, opening_view, view}
+pub use Rattle.task_steps.specs.Rule.{TaskPlace, WorkAtHome, member, opening_view, view}
 pub use Rattle.task_steps.specs.Scripts.{dropping_output, releasing_awaiter, taking_awaiter}
 pub use Rattle.task_steps.specs.Standing.{as_deliverer, as_ended, as_runnable, as_task, as_waker, closing_way, handed_over, poll_number, rest_of, way_of}
 pub use Rattle.task_steps.specs.Steps.{Awaits, Carried, Carries, Makes, TakesOutput, Works, acted, all_fit, and_then, awaiter_first, born_of, head_of, held_word}

@@ -33,11 +33,11 @@ module _ {F T A : Type 0} where
   abbrev Beside : List Deed → List Member → Party F T A → Party F T A → Type 0
   Beside path more p q = q.seat.me ≡ (view (limit_of p) (member (At Lent) (after path (deeds p)) ∷ more), [])
 
-  back {values = values} : {values : Values F T} (w : State) (acts : List Act) (path : List Deed) (more : List Member) (p q : Party F T A) → Stands (At Lent) p → ((slots : Slots) (l : ℕ) (ds : List Deed) → acted w slots acts (view l (member (At Lent) ds ∷ [])) ≡ view l (member (At Lent) (after path ds) ∷ more))
+  back : {values : Values F T} (w : State) (acts : List Act) (path : List Deed) (more : List Member) (p q : Party F T A) → Stands (At Lent) p → ((slots : Slots) (l : ℕ) (ds : List Deed) → acted w slots acts (view l (member (At Lent) ds ∷ [])) ≡ view l (member (At Lent) (after path ds) ∷ more))
       → Makes values acts w p.seat.me q.seat.me → Beside path more p q
   back {values = values} w acts path more p q s lead m = let x = moved acts w (At Lent) [] p q s m in let viewed = x.viewed ∙ lead x.slots (limit_of p) (deeds p) in
       let carried = subst (λ (at : Position). Carried values (At Lent) at [] q.seat.me.1) (ap (λ (v : View). (head_of v.members).at) (lead x.slots (limit_of p) (deeds p))) x.carried in
-      (λ i. (viewed i, keeps_places (At Lent) (At Lent) [] q.seat.me.1 refl refl carried i))
+      (λ i. (viewed i, keeps_places values (At Lent) (At Lent) [] q.seat.me.1 refl refl carried i))
 
   -- a party that has done nothing, alone on its seat
   pub fresh_stands : (at : Position) (l : ℕ) (p : Party F T A) → p.seat.me ≡ (view l (fresh at ∷ []), []) → Stands at p
@@ -132,7 +132,7 @@ module _ {F T A : Type 0} where
       w : State
       w = x.word
 
-      by : {values : Values F T} (a b : Bool) → found 0 WakeIdle w ≡ a → found 0 WakeRunning w ≡ b → let r : Woken = if a then Idle else (if b then Running else Scheduled) in brings_runnable r ≡ false → Makes values (waking_task r) w p.seat.me q.seat.me → WakesTask p q None
+      by : (a b : Bool) → found 0 WakeIdle w ≡ a → found 0 WakeRunning w ≡ b → let r : Woken = if a then Idle else (if b then Running else Scheduled) in brings_runnable r ≡ false → Makes values (waking_task r) w p.seat.me q.seat.me → WakesTask p q None
       by true b idle too none m = absurd (cc)
       by false true unfit fit none m = let path : List Deed = row WakeRunning w ∷ act EndCall ∷ [] in
           makes_none path (is_running w fit) (record { cell = cell; is = back w (WakeRunning ∷ EndCall ∷ []) path [] p q s (λ slots l ds. refl) m })
@@ -147,7 +147,7 @@ module _ {F T A : Type 0} where
       w : State
       w = x.word
 
-      by : {values : Values F T} (a b : Bool) → found 0 WakeIdle w ≡ a → let r : Woken = if a then Idle else (if b then Running else Scheduled) in brings_runnable r ≡ true → Makes values (waking_task r) w p.seat.me q.seat.me
+      by : (a b : Bool) → found 0 WakeIdle w ≡ a → let r : Woken = if a then Idle else (if b then Running else Scheduled) in brings_runnable r ≡ true → Makes values (waking_task r) w p.seat.me q.seat.me
           → (found 0 WakeIdle w ≡ true) × Beside (row WakeIdle w ∷ act EndCall ∷ []) (fresh as_deliverer ∷ []) p q
       by true b fit some m = (fit, back w (WakeIdle ∷ EndCall ∷ []) (row WakeIdle w ∷ act EndCall ∷ []) (fresh as_deliverer ∷ []) p q s (λ slots l ds. refl) m)
       by false true unfit some m = absurd (cc)
@@ -162,7 +162,7 @@ module _ {F T A : Type 0} where
   pub drops : {values : Values F T} (w : State) (p q : Party F T A) → Stands as_waker p → q.seat.block ≡ p.seat.block → Makes values (dropping_waker w) w p.seat.me q.seat.me → DropsWaker p q (dropped_by w)
   drops {values = values} w p q s cell m = made (others_left w) (is_open w) refl refl m
     where
-      made : {values : Values F T} (b o : Bool) → others_left w ≡ b → is_open w ≡ o → Makes values (dropping_as (if b then Shared else (if o then Orphaned else Last))) w p.seat.me q.seat.me
+      made : (b o : Bool) → others_left w ≡ b → is_open w ≡ o → Makes values (dropping_as (if b then Shared else (if o then Orphaned else Last))) w p.seat.me q.seat.me
           → DropsWaker p q (if b then Shared else (if o then Orphaned else Last))
       made true o shared now m = let x = moved (DropWaker ∷ EndCall ∷ []) w (At Waker) [] p q s m in
           (w, shared, did p q (row DropWaker w ∷ act EndCall ∷ []) (At Ended) [] cell x.viewed x.carried)
@@ -178,7 +178,7 @@ module _ {F T A : Type 0} where
 module _ (F T A : Type 0) (values : Values F T) (limit : ℕ) where
   -- the rule allows a lent waker to gain a reference, and to wake
   pub may_gain : (p : Party F T A) → Stands (At Lent) p → limit_of p ≡ limit → MayTry values limit 2 p.seat.id p.seat.me to_gain × MayBring values limit p.seat.id p.seat.me to_gain
-  may_gain p s is = may_bring_at limit p (At Lent) [] s to_gain (λ w. ap (λ l. at_limit l w) is) (owed.gains F T A values limit Lent (deeds p) [] [] refl) (gains_handle limit Lent (deeds p) [] F T A) (owed.finds_limit F T A values limit Lent (deeds p) [] [] refl)
+  may_gain p s is = may_bring_at limit p (At Lent) [] s to_gain (λ w. ap (λ l. at_limit l w) is) (owed.gains F T A values limit Lent (deeds p) [] [] refl) (gains_handle limit Lent (deeds p) [] F T A values) (owed.finds_limit F T A values limit Lent (deeds p) [] [] refl)
 
   pub may_wake : (p : Party F T A) → Stands (At Lent) p → MayTry values limit 2 p.seat.id p.seat.me to_wake × MayBring values limit p.seat.id p.seat.me to_wake
-  may_wake p s = may_bring_at limit p (At Lent) [] s to_wake (λ w. refl) (owed.wakes F T A values limit Lent (deeds p) [] [] refl) (wakes_task limit Lent (deeds p) [] F T A) (owed.finds_over F T A values limit Lent (deeds p) [] [] refl)
+  may_wake p s = may_bring_at limit p (At Lent) [] s to_wake (λ w. refl) (owed.wakes F T A values limit Lent (deeds p) [] [] refl) (wakes_task limit Lent (deeds p) [] F T A values) (owed.finds_over F T A values limit Lent (deeds p) [] [] refl)

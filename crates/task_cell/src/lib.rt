@@ -8,6 +8,8 @@
 pub mod cell;
 pub mod handles;
 
-pub use cell::{Cell, CellHold, EndedCall, MaybeShare, Party, Runnable, Share, TaskWaker};
+pub use cell::{
+    Cell, CellHold, EndedCall, LaidCell, MaybeShare, Party, Runnable, Share, TaskWaker,
+};
 pub use handles::{ParkedRunnable, ParkedWaker, StoredWaker};
 pub use task_steps::table::Kept;

@@ -1,4 +1,6 @@
 -- What the steps of a detach come to.
+use Rattle.task_steps.specs.Values.{Values}
+use Rattle.task_exports.proofs.Unknown.{output_unknown}
 use Rattle.task_cell.proofs.Vocabulary.{TaskPlace}
 use Rattle.std.proofs.Common.{◌≡◌, ℕ, Bool, true, false, List, [], ◌∷◌, ◌++◌, Option, Some, None, refl, sym, ap, ◌∙◌, subst}
 use Rattle.task_core.specs.Word.{State}
@@ -29,24 +31,24 @@ module _ {F T A : Type 0} where
 module _ {R F Q M A B O T : Type 0} {G : Ghosts F O} where
   -- the share is there still after a step, and its party is one of its cell
   pub live_after : (share : Share R F Q M A B O G) (maybe : MaybeShare R F Q M A B O G) (b : Bool) (p q : Party F T A) (path : List Deed) (at : Position) (held : List (ℕ × TaskPlace F T A)) → IsOf share p → limit_of p ≡ limit_in share → Leaves share maybe b → b ≡ true → DidWith path at held p q
-      → (maybe.maybe.there ≡ true) × (q.seat.block ≡ maybe.maybe.id) × (limit_of q ≡ maybe.maybe.key)
+      → (maybe.maybe.there ≡ true) × (q.seat.block ≡ maybe.maybe.id) × (limit_of q ≡ maybe.maybe.key.limit)
   live_after share maybe b p q path at held cell limit l is g = (l.is_there ∙ is, g.cell ∙ (cell ∙ sym l.cell.0), limit_is p q path at held g ∙ (limit ∙ sym l.limit))
 
 module _ {R F Q M A B O T : Type 0} {G : Ghosts F O} where
   pub live_rest : (share : Share R F Q M A B O G) (maybe : MaybeShare R F Q M A B O G) (b : Bool) (p q : Party F T A) → IsOf share p → limit_of p ≡ limit_in share → Leaves share maybe b → b ≡ true → GivesTaskUp p q b
-      → (maybe.maybe.there ≡ true) × (q.seat.block ≡ maybe.maybe.id) × (limit_of q ≡ maybe.maybe.key)
+      → (maybe.maybe.there ≡ true) × (q.seat.block ≡ maybe.maybe.id) × (limit_of q ≡ maybe.maybe.key.limit)
   live_rest share maybe true p q cell limit l e d = live_after share maybe true p q _ _ _ cell limit l refl d.3
   live_rest share maybe false p q cell limit l e d = absurd (cc)
 
 -- the row of a detach, by what is in its place then
-pub shared_so : (x y : Hand) → DetachesRow x.party y.party Shared → IsGone y → Detaches x y None 1
+pub shared_so : {values : Values _ _} (x y : Hand) → DetachesRow values x.party y.party Shared → IsGone y → Detaches x y None 1
 shared_so x y d gone = is_shared d.0 d.1 gone d.2
 
-pub last_so : (x y : Hand) → DetachesRow x.party y.party Last → Becomes x y → Detaches x y None 9
+pub last_so : {values : Values _ _} (x y : Hand) → DetachesRow values x.party y.party Last → Becomes x y → Detaches x y None 9
 last_so x y d b = is_last d.0 d.1 d.2 b d.3
 
-pub unclaimed_so : (x y : Hand) → DetachesRow x.party y.party Unclaimed → Becomes x y → Detaches x y None 5
-unclaimed_so x y d b = is_unclaimed d.0 d.1 d.2 d.3 b d.4
+pub unclaimed_so : {values : Values _ _} (x y : Hand) → DetachesRow values x.party y.party Unclaimed → Becomes x y → Detaches x y None 5
+unclaimed_so x y d b = is_unclaimed d.0 d.1 d.2 (output_unknown d.1 d.3) b d.4
 
 pub rest_last : (x y : Hand) (b : Bool) → b ≡ true → GivesTaskUp x.party y.party b → Becomes x y → EndsDetach x y 9
 rest_last x y true e d k = leaves_none d.0 d.1 d.2 k d.3
@@ -59,5 +61,5 @@ rest_shared x y true e d gone = absurd (cc)
 module _ {R F Q M A B O T : Type 0} {G : Ghosts F O} where
   -- the Runnable that was handed over, by the share that the step brought
   pub live_runnable : (share : Share R F Q M A B O G) (maybe : MaybeShare R F Q M A B O G) (b : Bool) (q r : Party F T A) → q.seat.block ≡ share.block.id → limit_of q ≡ limit_in share → Leaves share maybe b → b ≡ true → IsNew as_runnable q r
-      → (maybe.maybe.there ≡ true) × (r.seat.block ≡ maybe.maybe.id) × (limit_of r ≡ maybe.maybe.key)
+      → (maybe.maybe.there ≡ true) × (r.seat.block ≡ maybe.maybe.id) × (limit_of r ≡ maybe.maybe.key.limit)
   live_runnable share maybe b q r cell limit l is n = (l.is_there ∙ is, n.cell ∙ (cell ∙ sym l.cell.0), same_limit q r n ∙ (limit ∙ sym l.limit))

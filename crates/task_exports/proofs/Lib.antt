@@ -26,3 +26,4 @@ pub mod WakeCall
 pub mod RunCall
 pub mod DiscardCall
 pub mod TaskCall
+pub mod Unknown

@@ -12,12 +12,12 @@ use Rattle.task_cell.proofs.Moved as moved
 module _ {R F Q M A B O T : Type 0} {G : Ghosts F O} where
   -- a party of the cell of a share that is there
   abbrev pub Lives : MaybeShare R F Q M A B O G → Party F T A → Type 0
-  Lives maybe p = (maybe.maybe.there ≡ true) × (p.seat.block ≡ maybe.maybe.id) × (limit_of p ≡ maybe.maybe.key)
+  Lives maybe p = (maybe.maybe.there ≡ true) × (p.seat.block ≡ maybe.maybe.id) × (limit_of p ≡ maybe.maybe.key.limit)
 
   pub of_cell : (before : MaybeShare R F Q M A B O G) (share : Share R F Q M A B O G) (p : Party F T A) → Lives before p → Taken before share → p.seat.block ≡ share.block.id
   of_cell before share p live taken = live.1 ∙ sym taken.0
 
-  pub of_limit : (before : MaybeShare R F Q M A B O G) (share : Share R F Q M A B O G) (p : Party F T A) → Lives before p → Taken before share → limit_of p ≡ share.block.key
+  pub of_limit : (before : MaybeShare R F Q M A B O G) (share : Share R F Q M A B O G) (p : Party F T A) → Lives before p → Taken before share → limit_of p ≡ share.block.key.limit
   of_limit before share p live taken = live.2 ∙ sym taken.1
 
   -- .. once the party has made steps
@@ -54,7 +54,7 @@ module _ {R F Q M A B O T : Type 0} {G : Ghosts F O} where
 
   -- the record of a call by reference, which lies beside a share that is gone
   pub records : (before gone : MaybeShare R F Q M A B O G) (share : Share R F Q M A B O G) (path : List Deed) (p : Party F T A) → Taken before share → Leaves share gone false → HasMade share path p
-      → (gone.maybe.there ≡ false) × (p.seat.block ≡ before.maybe.id) × (p.seat.me ≡ (view before.maybe.key (member as_lent (after path []) ∷ []), []))
+      → (gone.maybe.there ≡ false) × (p.seat.block ≡ before.maybe.id) × (p.seat.me ≡ (view before.maybe.key.limit (member as_lent (after path []) ∷ []), []))
   records before gone share path p taken leaves made = (leaves.is_there, made.0 ∙ taken.0, made.1 ∙ ap (λ l. (view l (member as_lent (after path []) ∷ []), [])) taken.1)
 
   -- .. by a share of the same cell, which a step that was not made has handed back

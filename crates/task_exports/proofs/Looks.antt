@@ -18,6 +18,8 @@ use Rattle.task_laws.specs.declared.positions.Position.{Position}
 use Rattle.task_laws.specs.declared.positions.Position.TheVariants.{Answering, Notifier, Releaser, TookOutput}
 use Rattle.task_steps.specs.Deeds.{act, row}
 use Rattle.task_steps.specs.PollScripts.{has_ended, has_output}
+use Rattle.task_exports.proofs.Unknown.{output_unknown}
+use Rattle.task_steps.specs.Values.{Values}
 use Rattle.task_steps.specs.Rule.{IsOutput}
 use Rattle.task_steps.specs.Standing.{as_task, poll_number}
 use Rattle.task_steps.specs.declared.table.Deed.{Deed}
@@ -51,13 +53,13 @@ module _ {F T A : Type 0} where
       ends_now x.0 x.1 (then_goes p q r (row MissNotify x.0 ∷ []) (act EndCall ∷ []) (Answering i IsClosed) [] [] poll_end x.2 e)
 
   -- a look that has claimed the output, and what followed
-  pub claimed_stands : (w : State) (path : List Deed) (p q : Party F T A) (due : Bool) → ClaimsOutput w path p q → due ≡ w.awaiter → (i : ℕ) × (z : Slot F T) × StandsWith (notifies due (OfClaim i)) (work_first z []) q
+  pub claimed_stands : {values : Values F T} (w : State) (path : List Deed) (p q : Party F T A) (due : Bool) → ClaimsOutput values w path p q → due ≡ w.awaiter → (i : ℕ) × (z : Slot F T) × StandsWith (notifies due (OfClaim i)) (work_first z []) q
   claimed_stands w path p q due c e = let i = poll_number (position p) in
       (i, c.output, subst (λ (b : Bool). StandsWith (notifies b (OfClaim i)) (work_first c.output []) q) (sym e) (stands p q path (notifies w.awaiter (OfClaim i)) (work_first c.output []) c.did))
 
-  claimed_goes : (claims : State → List Deed) (i : ℕ) (w : State) (z : Slot F T) (p q r : Party F T A) (a : ℕ) → has_output w ≡ true → IsOutput z → DidWith (claims w) (notifies w.awaiter (OfClaim i)) (work_first z []) p q → ClaimGoesOn w.awaiter i z q r a → Answers i claims p r a
-  claimed_goes claims i w z p q r _ there o g (has_it_now notice passes d) = has_it w z notice there o passes (did_then p q r (claims w) notice (notifies w.awaiter (OfClaim i)) (TookOutput i) (work_first z []) (work_first z []) g d)
-  claimed_goes claims i w z p q r _ there o g (claim_takes due t) = has_it_and_takes w z there o due (
+  claimed_goes : {values : Values F T} (claims : State → List Deed) (i : ℕ) (w : State) (z : Slot F T) (p q r : Party F T A) (a : ℕ) → has_output w ≡ true → IsOutput values z → DidWith (claims w) (notifies w.awaiter (OfClaim i)) (work_first z []) p q → ClaimGoesOn w.awaiter i z q r a → Answers i claims p r a
+  claimed_goes claims i w z p q r _ there o g (has_it_now notice passes d) = has_it w z notice there (output_unknown z o) passes (did_then p q r (claims w) notice (notifies w.awaiter (OfClaim i)) (TookOutput i) (work_first z []) (work_first z []) g d)
+  claimed_goes claims i w z p q r _ there o g (claim_takes due t) = has_it_and_takes w z there (output_unknown z o) due (
     t.0,
     t.1,
     t.2,
@@ -66,7 +68,7 @@ module _ {F T A : Type 0} where
     did_then p q r (claims w) (row BeginNotify t.0 ∷ act TakeAwaiter ∷ []) (notifies w.awaiter (OfClaim i)) (Releaser t.1 (OfClaim i)) (work_first z []) (awaiter_first t.2 (work_first z [])) g t.5,
   )
 
-  pub answers_claimed : (claims : State → List Deed) (w : State) (p q r : Party F T A) (due : Bool) (a : ℕ) → ClaimsOutput w (claims w) p q → due ≡ w.awaiter
+  pub answers_claimed : {values : Values F T} (claims : State → List Deed) (w : State) (p q r : Party F T A) (due : Bool) (a : ℕ) → ClaimsOutput values w (claims w) p q → due ≡ w.awaiter
       → ((i : ℕ) (z : Slot F T) → StandsWith (notifies due (OfClaim i)) (work_first z []) q → ClaimGoesOn due i z q r a) → Answers (poll_number (position p)) claims p r a
   answers_claimed claims w p q r due a c e f = let i = poll_number (position p) in let held = work_first c.output [] in
       let s = subst (λ (b : Bool). StandsWith (notifies b (OfClaim i)) held q) (sym e) (stands p q (claims w) (notifies w.awaiter (OfClaim i)) held c.did) in

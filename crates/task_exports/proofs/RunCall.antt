@@ -1,6 +1,7 @@
 -- What the parts of a run come to, put together from its exports.
 use Rattle.std.proofs.Common.{◌≡◌, ℕ, Bool, true, false, List, [], ◌∷◌, ◌++◌, Option, Some, None, is_some, if◌then◌else◌, refl, sym, subst}
 use Rattle.std.specs.Prelude.{IfSome, nat_eq}
+use Rattle.task_exports.specs.Unknown.{unknown}
 use Rattle.task_core.specs.Word.{State}
 use Rattle.task_core.specs.declared.acts.Act.{Act}
 use Rattle.task_core.specs.declared.acts.Act.TheVariants.{AnswerPending, AnswerReady, BeginNotify, Complete, CompleteDetached, DropFuture, DropOutput, EmptySlots, EndCall, EndClosed, EndNotify, GiveUpLastReference, GiveUpReference, StartPoll, StartRun, StoreOutput, TakeAwaiter, TakeUpClosed, Unschedule, WakeAwaiter}
@@ -292,7 +293,7 @@ module _ (Woken : Type 0) where
 
           -- the future is polled, and what that answered
           pub data Polls : Type 0 where
-            polls : (w : State) (y : _) → w.closed ≡ false → IsFuture y → DidWith (row StartRun w ∷ act StartPoll ∷ []) Polling (work_first y []) x.party k.party → Polls
+            polls : (w : State) (y : _) → w.closed ≡ false → IsFuture unknown y → DidWith (row StartRun w ∷ act StartPoll ∷ []) Polling (work_first y []) x.party k.party → Polls
 
           pub starts : (n : ℕ) → Starts x k n → n ≡ 3 → IsLive k × Polls
           starts _ answers.start_missed e = differs 0 3 refl refl e
@@ -300,7 +301,7 @@ module _ (Woken : Type 0) where
           starts _ (answers.finds_closed live t) e = differs 4 3 refl refl e
 
           -- .. by the handle, which it was lent
-          pub is_polling : (p : CellParty) → p ≡ k.party → Polls → (y : _) × StandsWith Polling (work_first y []) p × IsFuture y
+          pub is_polling : (p : CellParty) → p ≡ k.party → Polls → (y : _) × StandsWith Polling (work_first y []) p × IsFuture unknown y
           is_polling p e (polls w y a f d) = (y, subst (λ r. StandsWith Polling (work_first y []) r) (sym e) (stands _ _ _ _ _ d), f)
 
           pub was_ready : (p q : CellParty) (output : T) → p ≡ k.party → Polls → Polled (Answered output) → Readied p q → Runs false x.party q

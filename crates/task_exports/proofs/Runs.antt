@@ -1,4 +1,5 @@
 -- What the steps of a run come to for its hand.
+use Rattle.task_steps.specs.Values.{Values}
 use Rattle.task_cell.specs.declared.cell.Party.{Party}
 use Rattle.task_cell.proofs.Vocabulary.{◌≡◌, ℕ, Bool, true, false, ◌&&◌, not, if◌then◌else◌, List, [], ◌∷◌, Option, Some, ap, ◌∙◌, sym, subst, State, Empty, TakesUp, finds_closed, starts}
 use Rattle.task_cell.proofs.Vocabulary.{Completes, keeps, finds_detached, DidWith, Did, StandsWith, Stands, limit_of, row, act, notifies, OfRun, ReadyFutureDropped, OutputInHand}
@@ -22,7 +23,7 @@ ready_then : {F T A : Type 0} (p q r : Party F T A) (path : List _) (at : _) (he
 ready_then p q r path at held g d = moved.did_then p q r (act AnswerReady ∷ act DropFuture ∷ []) path ReadyFutureDropped at (work_first Empty []) held g d
 
 module _ {R F Q M A B O T : Type 0} {G : Ghosts F O} where
-  pub taken_up : (before after : MaybeShare R F Q M A B O G) (share : Share R F Q M A B O G) (p q : Party F T A) (b : Bool) → Lives before p → Taken before share → Leaves share after true → TakesUp p q b → Lives after q
+  pub taken_up : {values : Values F T} (before after : MaybeShare R F Q M A B O G) (share : Share R F Q M A B O G) (p q : Party F T A) (b : Bool) → Lives before p → Taken before share → Leaves share after true → TakesUp values p q b → Lives after q
   taken_up before after share p q false live taken leaves (finds_closed w y e f g) = lives_on before after share p q _ _ _ live taken leaves g
   taken_up before after share p q true live taken leaves (starts w y e f g) = lives_on before after share p q _ _ _ live taken leaves g
 

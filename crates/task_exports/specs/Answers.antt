@@ -19,6 +19,7 @@ use Rattle.task_steps.specs.WakerScripts.{others_left}
 use Rattle.task_cell.specs.Calls.{Did, DidWith, Fits, Stands}
 use Rattle.task_cell.specs.RunPaths.{NotifyPath}
 use Rattle.task_cell.specs.Starts.{TakesUp}
+use Rattle.task_exports.specs.Unknown.{unknown}
 use Rattle.task_cell.specs.WakerPaths.{GainPath, TaskWakePath}
 use Rattle.task_exports.specs.Hands.{IsLive, IsGone, SameCell}
 use Rattle.task_exports.specs.Parties.{CellParty}
@@ -39,8 +40,8 @@ pub data Made : ℕ → Handle → Handle → Type 0 where
 -- a run begins: 3, the future is to be polled; 4, the task was closed
 pub data Starts (x k : Hand) : ℕ → Type 0 where
   start_missed : Starts x k 0
-  polls : IsLive k → TakesUp x.party k.party true → Starts x k 3
-  finds_closed : IsLive k → TakesUp x.party k.party false → Starts x k 4
+  polls : IsLive k → TakesUp unknown x.party k.party true → Starts x k 3
+  finds_closed : IsLive k → TakesUp unknown x.party k.party false → Starts x k 4
 
 -- after these deeds the reference is given up: 1, others are left, and the call has ended; 9, it was the last
 pub data GivesBack (before : List Deed) (x k : Hand) : ℕ → Type 0 where
@@ -111,7 +112,7 @@ pub data Discarded (x k : Hand) : Option ℕ → ℕ → Type 0 where
 -- what a call by reference in the cell of x has left of itself: a party that was lent for it, and did this and nothing else
 abbrev pub Records : List Deed → Hand → Hand → Type 0
 Records path x k =
-    IsGone k × (k.party.seat.block ≡ x.share.maybe.id) × (k.party.seat.me ≡ (view x.share.maybe.key (member as_lent (after path []) ∷ []), []))
+    IsGone k × (k.party.seat.block ≡ x.share.maybe.id) × (k.party.seat.me ≡ (view x.share.maybe.key.limit (member as_lent (after path []) ∷ []), []))
 
 -- a wake: 10, a Runnable is to be scheduled; 12, there is none
 pub data Wakes (x k : Hand) : ℕ → Type 0 where
@@ -120,7 +121,7 @@ pub data Wakes (x k : Hand) : ℕ → Type 0 where
 
 -- a gain: 12, a new waker; 13, the count is at its limit
 pub data Gains (x k : Hand) : ℕ → Type 0 where
-  at_limit : (path : List Deed) → GainPath x.share.maybe.key false path → Records path x k → Gains x k 13
+  at_limit : (path : List Deed) → GainPath x.share.maybe.key.limit false path → Records path x k → Gains x k 13
   gains : IsLive k → SameCell k x → Stands as_waker k.party → Gains x k 12
 
 -- what a call has put into a place, unless each of its tries has missed

@@ -9,7 +9,7 @@ SameCell x y = (x.share.maybe.id ≡ y.share.maybe.id) × (x.share.maybe.value �
 
 -- the share is there, and the party is one of its cell
 abbrev pub IsLive : Hand → Type 0
-IsLive x = (x.share.maybe.there ≡ true) × (x.party.seat.block ≡ x.share.maybe.id) × (limit_of x.party ≡ x.share.maybe.key)
+IsLive x = (x.share.maybe.there ≡ true) × (x.party.seat.block ≡ x.share.maybe.id) × (limit_of x.party ≡ x.share.maybe.key.limit)
 
 -- the share is gone
 abbrev pub IsGone : Hand → Type 0

@@ -5,3 +5,4 @@ pub mod Answers
 pub mod Parties
 pub mod TaskAnswers
 pub mod CallPaths
+pub mod Unknown

@@ -26,7 +26,7 @@ cell_in x = (x.share.maybe.id, x.share.maybe.value)
 
 -- the limit of references of its cell
 abbrev pub limit_at : Hand → ℕ
-limit_at x = x.share.maybe.key
+limit_at x = x.share.maybe.key.limit
 
 -- a share of the same cell is there still
 abbrev pub Stays : Hand → Hand → Type 0

@@ -18,6 +18,7 @@ use Rattle.task_steps.specs.declared.table.Deed.{Deed}
 use Rattle.task_steps.specs.declared.table.Slot.{Slot}
 use Rattle.task_steps.specs.Deeds.{row, act}
 use Rattle.task_steps.specs.PollScripts.{has_output, has_ended, has_to_wait}
+use Rattle.task_exports.specs.Unknown.{unknown}
 use Rattle.task_steps.specs.Rule.{IsOutput, Waits, TaskPlace}
 use Rattle.task_steps.specs.Standing.{as_ended, as_runnable, as_task}
 use Rattle.task_steps.specs.Steps.{work_first, awaiter_first}
@@ -78,15 +79,15 @@ module _ {F T A : Type 0} where
 
   -- a poll whose output was claimed, and which has the place of the awaiter
   abbrev pub ClaimAtPlace : ℕ → Slot F T → Party F T A → Type 0
-  ClaimAtPlace i z p = IsOutput z × AtPlace (OfClaim i) (work_first z []) p
+  ClaimAtPlace i z p = IsOutput unknown z × AtPlace (OfClaim i) (work_first z []) p
 
   -- a poll whose output was claimed, with the awaiter in hand
   abbrev pub ClaimInHand : ℕ → Slot F T → Party F T A → Type 0
-  ClaimInHand i z p = IsOutput z × InHand (OfClaim i) (work_first z []) p
+  ClaimInHand i z p = IsOutput unknown z × InHand (OfClaim i) (work_first z []) p
 
   -- a poll that is to hand the output out
   abbrev pub HasOutput : ℕ → Slot F T → Party F T A → Type 0
-  HasOutput i z p = IsOutput z × StandsWith (TookOutput i) (work_first z []) p
+  HasOutput i z p = IsOutput unknown z × StandsWith (TookOutput i) (work_first z []) p
 
   -- a cancel by a Task that has begun n polls
   pub data Cancels (n : ℕ) (p q : Party F T A) : ℕ → Type 0 where
@@ -127,9 +128,9 @@ module _ {F T A : Type 0} where
   -- a look of poll i that claims the output by this path: where it is there it is claimed, and where the task has ended the poll is over;
   -- both once the awaiter was taken
   pub data Answers (i : ℕ) (claims : State → List Deed) (p q : Party F T A) : ℕ → Type 0 where
-    has_it : (w : State) (z : Slot F T) (notice : List Deed) → has_output w ≡ true → IsOutput z → PassesBy w.awaiter notice
+    has_it : (w : State) (z : Slot F T) (notice : List Deed) → has_output w ≡ true → IsOutput unknown z → PassesBy w.awaiter notice
         → DidWith (claims w ++ notice) (TookOutput i) (work_first z []) p q → Answers i claims p q 16
-    has_it_and_takes : (w : State) (z : Slot F T) → has_output w ≡ true → IsOutput z → w.awaiter ≡ true
+    has_it_and_takes : (w : State) (z : Slot F T) → has_output w ≡ true → IsOutput unknown z → w.awaiter ≡ true
         → TakesPlace (OfClaim i) (λ v. claims w ++ taking v) (work_first z []) p q → Answers i claims p q 24
     ends : (w v : State) → has_ended w ≡ true → Fits MissNotify v
         → Did (row Look w ∷ row MissNotify v ∷ act EndCall ∷ []) (as_task i) p q → Answers i claims p q 17
@@ -185,7 +186,7 @@ pub data Detaches (x y : Hand) : Option CellParty → ℕ → Type 0 where
   is_shared : (w : State) → Fits Detach w → IsGone y → Did (row Detach w ∷ act EndCall ∷ []) as_ended x.party y.party → Detaches x y None 1
   is_last : (w : State) (z : _) → Fits DetachLast w → Becomes x y
       → DidWith (row DetachLast w ∷ []) (Emptier None Nothing) (awaiter_first z []) x.party y.party → Detaches x y None 9
-  is_unclaimed : (w : State) (z : _) → Fits GiveUpOutput w → IsOutput z → Becomes x y
+  is_unclaimed : (w : State) (z : _) → Fits GiveUpOutput w → IsOutput unknown z → Becomes x y
       → DidWith (row GiveUpOutput w ∷ []) OutputCloser (work_first z []) x.party y.party → Detaches x y None 5
   is_orphaned : (w : State) (ended : CellParty) → Fits DetachOrphan w
       → Did (row DetachOrphan w ∷ act HandOver ∷ act EndCall ∷ []) as_ended x.party ended → Becomes x y → Stands as_runnable y.party

@@ -13,6 +13,7 @@ ghost use Rattle.task_steps.specs.Deeds.{row, act};
 ghost use Rattle.task_steps.specs.Rule.{IsFuture};
 ghost use Rattle.task_steps.specs.Standing.{as_runnable};
 ghost use Rattle.task_steps.specs.Steps.{work_first};
+ghost use Rattle.task_exports.specs.Unknown.{unknown};
 
 use crate::answers::{
     DROP_FUTURE, DROP_OUTPUT, DROP_OUTPUT_DUE, MISSED, OVER, POLL, SCHEDULE, SCHEDULE_WOKEN,
@@ -151,7 +152,7 @@ pub extern "C" fn async_task_output_dropped(h: &mut Handle, due: bool) -> u32
 // What the handle's place has then, the answer, and the record of a party that has handed its share on.
 fn pend(hand: Hand) -> (Hand, u32, Option<Record>)
     requires hand { IsLive hand }
-    requires party { (y : _) × StandsWith Polling (work_first y []) hand.party × IsFuture y }
+    requires party { (y : _) × StandsWith Polling (work_first y []) hand.party × IsFuture unknown y }
     ensures { Pends hand result.0 (party_in result.2) result.1 }
 {
     let Hand { share, mut party } = hand;
@@ -190,7 +191,7 @@ fn pend(hand: Hand) -> (Hand, u32, Option<Record>)
 /// Ends a run whose poll was pending, as `async_task_pending`: the answer, and the record of a party that has handed its share on.
 pub fn pending(h: &mut Handle) -> (u32, Option<Record>)
     requires handle { IsFull h.old }
-    requires party { (y : _) × StandsWith Polling (work_first y []) h.old.hand.party × IsFuture y }
+    requires party { (y : _) × StandsWith Polling (work_first y []) h.old.hand.party × IsFuture unknown y }
     ensures there { h.new.there ≡ true }
     ensures path { Pends h.old.hand h.new.hand (party_in result.1) result.0 }
 {
@@ -203,7 +204,7 @@ pub fn pending(h: &mut Handle) -> (u32, Option<Record>)
 #[unsafe(no_mangle)]
 pub extern "C" fn async_task_pending(h: &mut Handle) -> u32
     requires handle { IsFull h.old }
-    requires party { (y : _) × StandsWith Polling (work_first y []) h.old.hand.party × IsFuture y }
+    requires party { (y : _) × StandsWith Polling (work_first y []) h.old.hand.party × IsFuture unknown y }
     ensures there { h.new.there ≡ true }
     ensures path { (ended : Option CellParty) × Pends h.old.hand h.new.hand ended result }
 {

@@ -3,9 +3,10 @@ ghost use Rattle.std.specs.Prelude.{◌≡◌, false};
 ghost use Rattle.task_exports.specs.Answers.{Made};
 
 use crate::answers::{DONE, MISSED};
-use crate::hand::{CellShare, Elsewhere, Hand};
+use crate::hand::{Elsewhere, Hand};
 use crate::handle::{Handle, put};
 use std::alloc::Global;
+use task_cell::LaidCell;
 use task_core::word::LIMIT;
 
 /// Makes a cell: 12, with its Runnable and its Task; 0, memory was refused.
@@ -14,9 +15,9 @@ pub extern "C" fn async_task_new(alloc: Global, runnable: &mut Handle, task: &mu
     requires room { (runnable.old.there ≡ false) × (task.old.there ≡ false) }
     ensures { Made result runnable.new task.new }
 {
-    match CellShare::make((), alloc, (), (), LIMIT) {
-        Ok((first, second, seat)) => {
-            let (of_runnable, of_task) = first.fill(seat, Elsewhere);
+    match LaidCell::make((), alloc, (), (), LIMIT) {
+        Ok(laid) => {
+            let (first, second, of_runnable, of_task) = laid.fill(Elsewhere);
             put(
                 runnable,
                 Hand {

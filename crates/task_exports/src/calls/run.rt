@@ -15,6 +15,7 @@ ghost use Rattle.task_steps.specs.Rule.{IsFuture, Waits};
 ghost use Rattle.task_steps.specs.Standing.{as_ended, as_runnable};
 ghost use Rattle.task_steps.specs.Steps.{awaiter_first, work_first};
 ghost use Rattle.task_steps.specs.declared.table.Deed.{Deed};
+ghost use Rattle.task_exports.specs.Unknown.{unknown};
 
 use crate::answers::{
     DROP_FUTURE, DROP_OUTPUT, DROP_OUTPUT_DUE, LAST, LAST_WAKE, OVER, POLL, SCHEDULE_WOKEN, TAKE,
@@ -132,7 +133,7 @@ fn end_cleared<A: Wake, C: Caller<A>>(h: &mut Handle, caller: &mut C) -> Option<
 // Ends a run whose poll was pending.
 fn end_pending<A: Wake, C: Caller<A>>(h: &mut Handle, caller: &mut C) -> Option<(bool, Record)>
     requires handle { IsFull h.old }
-    requires party { (y : _) × StandsWith Polling (work_first y []) h.old.hand.party × IsFuture y }
+    requires party { (y : _) × StandsWith Polling (work_first y []) h.old.hand.party × IsFuture unknown y }
     ensures { IfSome result (λ ended. (path : List Deed) × PendingPath ((a : A) × (r : A.Record) × A.woken a r) C.scheduled ended.0 path × Done C.did path × Did path as_ended h.old.hand.party ended.1.party) }
 {
     let (answer, ended) = pending(h);

@@ -2,8 +2,7 @@
 ghost use Rattle.std.specs.Prelude.{◌≡◌, ◌==◌};
 ghost use Rattle.test_tasks.specs.Stages.{Staged};
 
-use atomic_table::Play;
-use counted_block::{Bare, BlockRule, CountPlay, Inner, Place, Share};
+use counted_block::{Bare, BlockPlay, BlockRule, CountPlay, Inner, Place, Share};
 use linked_list_allocator::LocalHeap;
 
 /// The seat knows the stage: 0 with two shares, 1 with one, and 2 once it has noted the end.
@@ -20,19 +19,19 @@ impl BlockRule<u8, u16, u64, ()> for Stages {
 /// One of the two shares ends.
 struct Halve;
 
-impl Play<Place<u8, u16>, u64> for Halve {
-    ghost then = { λ _ _ n after. (n ≡ 2) × (after.0 ≡ 1) };
+impl BlockPlay<Place<u8, u16>, u64, ()> for Halve {
+    ghost then = { λ _ _ _ n after. (n ≡ 2) × (after.0 ≡ 1) };
 }
 
-impl CountPlay<Place<u8, u16>, u64> for Halve {
+impl CountPlay<Place<u8, u16>, u64, ()> for Halve {
     ghost counts = { λ _ n. n == 2 };
 }
 
 /// The seat notes that all is over.
 struct NoteEnd;
 
-impl Play<Place<u8, u16>, u64> for NoteEnd {
-    ghost then = { λ _ _ _ after. after.0 ≡ 2 };
+impl BlockPlay<Place<u8, u16>, u64, ()> for NoteEnd {
+    ghost then = { λ _ _ _ _ after. after.0 ≡ 2 };
 }
 
 // The word that the exchange found, the value and the second slot that the block had, and whether its memory was given back before the note.

@@ -2,8 +2,7 @@
 ghost use Rattle.std.specs.Prelude.{false};
 ghost use Rattle.test_tasks.specs.Counting.{view, Agrees, shares_out, Entered, Gained, gains_share, Parted, parts_share};
 
-use atomic_table::Play;
-use counted_block::{BlockRule, CountPlay, Place};
+use counted_block::{BlockPlay, BlockRule, CountPlay, Place};
 
 /// What one owner knows: how many owners it stands for, which is 0 or 1, and whether it was the last.
 pub struct View {
@@ -25,28 +24,28 @@ impl BlockRule<(), (), View, ()> for Law {
 /// A new seat comes, which stands for no owner yet.
 pub(crate) struct Enter;
 
-impl Play<Place<(), ()>, View> for Enter {
-    ghost then = { Entered };
+impl BlockPlay<Place<(), ()>, View, ()> for Enter {
+    ghost then = { λ _. Entered };
 }
 
 /// One owner more, if the word is as expected.
 pub(crate) struct Gain;
 
-impl Play<Place<(), ()>, View> for Gain {
-    ghost then = { Gained };
+impl BlockPlay<Place<(), ()>, View, ()> for Gain {
+    ghost then = { λ _. Gained };
 }
 
-impl CountPlay<Place<(), ()>, View> for Gain {
+impl CountPlay<Place<(), ()>, View, ()> for Gain {
     ghost counts = { gains_share };
 }
 
 /// One owner less. The last one keeps its share, to close the block.
 pub(crate) struct Part;
 
-impl Play<Place<(), ()>, View> for Part {
-    ghost then = { Parted };
+impl BlockPlay<Place<(), ()>, View, ()> for Part {
+    ghost then = { λ _. Parted };
 }
 
-impl CountPlay<Place<(), ()>, View> for Part {
+impl CountPlay<Place<(), ()>, View, ()> for Part {
     ghost counts = { parts_share };
 }

@@ -3,8 +3,7 @@ ghost use Rattle.std.specs.Prelude.{◌≡◌, ℕ, true, false, [], ◌∷◌};
 ghost use Rattle.counted_block.specs.declared.place.Place.TheVariants.{First, Second};
 ghost use Rattle.test_tasks.specs.Stages.{Taken};
 
-use atomic_table::Play;
-use counted_block::{Bare, BlockRule, Hold, Inner, Place, Seat, Share};
+use counted_block::{Bare, BlockPlay, BlockRule, Hold, Inner, Place, Seat, Share};
 use std::alloc::Global;
 use std::thread::{self, Threads};
 
@@ -22,8 +21,8 @@ impl BlockRule<u8, u16, bool, ()> for OneSeat {
 /// The seat takes both slots, the second one last.
 struct Take;
 
-impl Play<Place<u8, u16>, bool> for Take {
-    ghost then = { λ _ _ _ after. (x : ℕ) × (y : ℕ) × (after ≡ (true, (1, Second y) ∷ (0, First x) ∷ [])) };
+impl BlockPlay<Place<u8, u16>, bool, ()> for Take {
+    ghost then = { λ _ _ _ _ after. (x : ℕ) × (y : ℕ) × (after ≡ (true, (1, Second y) ∷ (0, First x) ∷ [])) };
 }
 
 type OneShare = Share<u8, u16, bool, (), OneSeat, (), Global>;

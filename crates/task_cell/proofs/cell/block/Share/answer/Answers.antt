@@ -3,6 +3,7 @@ use Rattle.task_cell.proofs.Moved.{stands}
 use Rattle.task_cell.proofs.PollWays.{has_claimed}
 use Rattle.task_cell.proofs.PollAnswers.{seen_again, waited, saw_end, answers_ended, answers_output}
 use Rattle.task_cell.specs.Belongs.{HasYielded}
+use Rattle.task_cell.proofs.Vocabulary.{subst}
 use Rattle.task_cell.proofs.cell.block.Share.answer.Goals as goal
 
 pub take_output-output-requires-clause-party : goal.take_output-output-requires-clause-party

@@ -12,8 +12,8 @@ alter_some-requires-clause-shares g c = let s = c.requires.party in (may_registe
 
 pub returns-in-Ok : goal.returns-in-Ok
 returns-in-Ok g c = let s = c.requires.party in let e = c.in_ok-alter_some.ensures in let p = c.args.party.now in let q = c.alter_some.new.party in
-    begun _ s.0 _ p q s.1 e.cell (subst (λ x. IfOk x (λ row. HasChanged (limit_in c.args.self.now) to_begin_register row p.seat.me q.seat.me)) c.in-Ok.is e.changed)
+    begun _ s.0 _ p q s.1 e.cell (subst (λ x. IfOk x (λ row. HasChanged _ (limit_in c.args.self.now) to_begin_register row p.seat.me q.seat.me)) c.in-Ok.is e.changed)
 
 pub returns-in-Err : goal.returns-in-Err
 returns-in-Err g c = let s = c.requires.party in let e = c.in_ok-alter_some.ensures in let p = c.args.party.now in let q = c.alter_some.new.party in
-    found_one _ s.0 _ p q s.1 e.cell (subst (λ x. IfErr x (λ w. HasEnded (limit_in c.args.self.now) to_begin_register w p.seat.me q.seat.me)) c.in-Err.is e.ended)
+    found_one _ s.0 _ p q s.1 e.cell (subst (λ x. IfErr x (λ w. HasEnded _ (limit_in c.args.self.now) to_begin_register w p.seat.me q.seat.me)) c.in-Err.is e.ended)

@@ -5,17 +5,17 @@ use Rattle.task_cell.proofs.TaskCalls.{detaches_unclaimed, detaches_shared, deta
 use Rattle.task_cell.proofs.cell.block.Share.detach.Goals as goal
 
 pub returns-in-Shared : goal.returns-in-Shared
-returns-in-Shared g c = record { path = detaches_shared _ c.args.party.now c.give_task_up-found.new.party (subst (Detaches c.args.party.now c.give_task_up-found.new.party) c.in-Shared.is c.give_task_up-found.ensures.path) }
+returns-in-Shared g c = record { path = detaches_shared _ _ c.args.party.now c.give_task_up-found.new.party (subst (Detaches _ c.args.party.now c.give_task_up-found.new.party) c.in-Shared.is c.give_task_up-found.ensures.path) }
 
 pub returns-in-Unclaimed : goal.returns-in-Unclaimed
-returns-in-Unclaimed g c = record { path = detaches_unclaimed _ _ _ _ (subst (Detaches c.args.party.now c.give_task_up-found.new.party) c.in-Unclaimed.is c.give_task_up-found.ensures.path) c.leave_unclaimed.ensures }
+returns-in-Unclaimed g c = record { path = detaches_unclaimed _ _ _ _ _ (subst (Detaches _ c.args.party.now c.give_task_up-found.new.party) c.in-Unclaimed.is c.give_task_up-found.ensures.path) c.leave_unclaimed.ensures }
 
 pub returns-in-Last : goal.returns-in-Last
-returns-in-Last g c = record { path = detaches_last _ _ _ _ (subst (Detaches c.args.party.now c.give_task_up-found.new.party) c.in-Last.is c.give_task_up-found.ensures.path) c.empty_at_end.ensures }
+returns-in-Last g c = record { path = detaches_last _ _ _ _ _ (subst (Detaches _ c.args.party.now c.give_task_up-found.new.party) c.in-Last.is c.give_task_up-found.ensures.path) c.empty_at_end.ensures }
 
 pub returns-in-Orphaned : goal.returns-in-Orphaned
-returns-in-Orphaned g c = let x = (subst (Detaches c.args.party.now c.give_task_up-found.new.party) c.in-Orphaned.is c.give_task_up-found.ensures.path) in
+returns-in-Orphaned g c = let x = (subst (Detaches _ c.args.party.now c.give_task_up-found.new.party) c.in-Orphaned.is c.give_task_up-found.ensures.path) in
     record {
-      path = detaches_orphaned _ _ _ _ x (subst (λ z. HandedOver g.Q.Schedule.scheduled z c.args.around false) (same_cell c.args.self c.share-in-Orphaned.result c.give_task_up-found.result.1 _ c.give_task_up-found.ensures.share c.share-in-Orphaned.ensures) c.hand_on.ensures.fact)
+      path = detaches_orphaned _ _ _ _ _ x (subst (λ z. HandedOver g.Q.Schedule.scheduled z c.args.around false) (same_cell c.args.self c.share-in-Orphaned.result c.give_task_up-found.result.1 _ c.give_task_up-found.ensures.share c.share-in-Orphaned.ensures) c.hand_on.ensures.fact)
           (c.hand_on.ensures.path Nothing (stands _ _ _ _ _ x.2));
     }

@@ -12,8 +12,8 @@ alter_some-requires-clause-shares g c = let s = c.requires.party in (may_give_ba
 
 pub returns-in-Ok : goal.returns-in-Ok
 returns-in-Ok g c = let s = c.requires.party in let e = c.in_ok-alter_some.ensures in let p = c.args.party.now in let q = c.alter_some.new.party in
-    ended _ s.0 _ (Some s.1) p q s.2 e.cell (subst (λ x. IfOk x (λ row. HasChanged (limit_in c.args.self.now) to_end_register row p.seat.me q.seat.me)) c.in-Ok.is e.changed)
+    ended _ s.0 _ (Some s.1) p q s.2 e.cell (subst (λ x. IfOk x (λ row. HasChanged _ (limit_in c.args.self.now) to_end_register row p.seat.me q.seat.me)) c.in-Ok.is e.changed)
 
 pub returns-in-Err : goal.returns-in-Err
 returns-in-Err g c = let s = c.requires.party in let e = c.in_ok-alter_some.ensures in let p = c.args.party.now in let q = c.alter_some.new.party in
-    notified _ s.0 _ (Some s.1) p q s.2 e.cell (subst (λ x. IfErr x (λ w. HasEnded (limit_in c.args.self.now) to_end_register w p.seat.me q.seat.me)) c.in-Err.is e.ended)
+    notified _ s.0 _ (Some s.1) p q s.2 e.cell (subst (λ x. IfErr x (λ w. HasEnded _ (limit_in c.args.self.now) to_end_register w p.seat.me q.seat.me)) c.in-Err.is e.ended)

@@ -5,6 +5,7 @@ use Rattle.task_cell.proofs.Carried.{exchanges_work}
 use Rattle.task_cell.proofs.Moved.{stands}
 use Rattle.task_cell.proofs.Carried.{lies_output}
 use Rattle.task_cell.specs.Belongs.{values_in}
+use Rattle.task_cell.proofs.Vocabulary.{IsOutput, sym, subst, ◌∙◌}
 use Rattle.task_cell.proofs.cell.block.Share.hand_out.Goals as goal
 
 pub load-requires-clause-allowed : goal.load-requires-clause-allowed

@@ -11,4 +11,4 @@ pub returns-clause-path : goal.returns-clause-path
 returns-clause-path g c = let s = c.requires.party in looks_so _ s.0 c.change.result c.args.party.now c.change.new.party s.1 c.change.ensures.cell c.change.ensures.changed c.change.ensures.ended
 
 pub returns-clause-ended : goal.returns-clause-ended
-returns-clause-ended g c = finds_it_ended _ c.change.result c.args.party.now c.change.new.party c.change.ensures.changed c.change.ensures.ended
+returns-clause-ended g c = finds_it_ended _ _ c.change.result c.args.party.now c.change.new.party c.change.ensures.changed c.change.ensures.ended

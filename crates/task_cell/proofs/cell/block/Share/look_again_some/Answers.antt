@@ -9,4 +9,4 @@ pub alter_some-requires-clause-shares : goal.alter_some-requires-clause-shares
 alter_some-requires-clause-shares g c = let s = c.requires.party in (may_look_again _ _ _ _ _ c.args.party.now s.0 s.1).1
 
 pub returns : goal.returns
-returns g c = let s = c.requires.party in let e = c.alter_some.ensures in tried_look_again _ s.0 c.alter_some.result c.args.party.now c.alter_some.new.party s.1 e.cell e.changed e.ended
+returns g c = let s = c.requires.party in let e = c.alter_some.ensures in tried_look_again _ _ s.0 c.alter_some.result c.args.party.now c.alter_some.new.party s.1 e.cell e.changed e.ended

@@ -9,7 +9,7 @@ pub alter_some-requires-clause-shares : goal.alter_some-requires-clause-shares
 alter_some-requires-clause-shares g c = let s = c.requires.party in (may_look _ _ _ _ _ c.args.party.now s.0 s.1).1
 
 pub returns-clause-path : goal.returns-clause-path
-returns-clause-path g c = let s = c.requires.party in let e = c.alter_some.ensures in tried_look _ s.0 c.alter_some.result c.args.party.now c.alter_some.new.party s.1 e.cell e.changed e.ended
+returns-clause-path g c = let s = c.requires.party in let e = c.alter_some.ensures in tried_look _ _ s.0 c.alter_some.result c.args.party.now c.alter_some.new.party s.1 e.cell e.changed e.ended
 
 pub returns-clause-ended : goal.returns-clause-ended
-returns-clause-ended g c = let e = c.alter_some.ensures in tried_ended _ c.alter_some.result c.args.party.now c.alter_some.new.party e.changed e.ended
+returns-clause-ended g c = let e = c.alter_some.ensures in tried_ended _ _ c.alter_some.result c.args.party.now c.alter_some.new.party e.changed e.ended

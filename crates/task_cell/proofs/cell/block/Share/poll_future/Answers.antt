@@ -4,6 +4,7 @@ use Rattle.task_cell.proofs.Carried.{same_work}
 use Rattle.task_cell.proofs.Running.{notes_on}
 use Rattle.task_cell.proofs.Carried.{lies_future}
 use Rattle.task_cell.specs.Belongs.{values_in}
+use Rattle.task_cell.proofs.Vocabulary.{IsFuture, sym}
 use Rattle.task_cell.proofs.cell.block.Share.poll_future.Goals as goal
 
 pub returns-clause-once : goal.returns-clause-once

@@ -4,6 +4,7 @@ use Rattle.task_cell.proofs.PollSeen.{poll_saw, still_ended}
 use Rattle.task_cell.proofs.PollWays.{has_claimed}
 use Rattle.task_cell.proofs.PollAnswers.{seen, saw, came, is_looking, polled_output, polled_ended, polled_refused, polled_again}
 use Rattle.task_cell.specs.Belongs.{HasYielded}
+use Rattle.task_cell.proofs.Vocabulary.{subst}
 use Rattle.task_cell.proofs.cell.block.Share.poll_lent.Goals as goal
 
 pub take_output-output-requires-clause-party : goal.take_output-output-requires-clause-party

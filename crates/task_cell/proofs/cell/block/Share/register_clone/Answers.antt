@@ -24,13 +24,13 @@ returns-else-not-end_register g c = let x = stores_clone _ _ _ _ _ c.begin_regis
     registered g.A.Wake.cloned g.A.Wake.woken g.A.Wake.woken_by_ref c.args.awaiter.now.awaiter.now _ _ _ _ x.0 e.0 x.1 _ c.args.clone.value x.2 e.1 c.requires.cloned x.3 e.2
 
 pub take_back-taken-requires-clause-party : goal.take_back-taken-requires-clause-party
-take_back-taken-requires-clause-party g c = let x = takes_back _ _ _ _ _ _ (stores_clone _ _ _ _ _ c.begin_register.ensures c.if-not-begin_register.false c.store.ensures) c.end_register.ensures c.if-not-end_register.true in (_, c.args.clone.value, stands _ _ _ _ _ x.3)
+take_back-taken-requires-clause-party g c = let x = takes_back _ _ _ _ _ (stores_clone _ _ _ _ _ c.begin_register.ensures c.if-not-begin_register.false c.store.ensures) c.end_register.ensures c.if-not-end_register.true in (_, c.args.clone.value, stands _ _ _ _ _ x.3)
 
 pub note_clone_woken-requires-clause-party : goal.note_clone_woken-requires-clause-party
-note_clone_woken-requires-clause-party g c = let x = takes_back _ _ _ _ _ _ (stores_clone _ _ _ _ _ c.begin_register.ensures c.if-not-begin_register.false c.store.ensures) c.end_register.ensures c.if-not-end_register.true in let k = c.take_back-taken.ensures.path in
+note_clone_woken-requires-clause-party g c = let x = takes_back _ _ _ _ _ (stores_clone _ _ _ _ _ c.begin_register.ensures c.if-not-begin_register.false c.store.ensures) c.end_register.ensures c.if-not-end_register.true in let k = c.take_back-taken.ensures.path in
     (_, stands _ _ _ _ _ (was_given_back g.A.Wake.cloned g.A.Wake.woken g.A.Wake.woken_by_ref c.args.awaiter.now.awaiter.now _ _ _ _ x.0 k.0 x.1 _ x.3 k.2))
 
 pub returns-then-not-end_register : goal.returns-then-not-end_register
-returns-then-not-end_register g c = let x = takes_back _ _ _ _ _ _ (stores_clone _ _ _ _ _ c.begin_register.ensures c.if-not-begin_register.false c.store.ensures) c.end_register.ensures c.if-not-end_register.true in let k = c.take_back-taken.ensures.path in
+returns-then-not-end_register g c = let x = takes_back _ _ _ _ _ (stores_clone _ _ _ _ _ c.begin_register.ensures c.if-not-begin_register.false c.store.ensures) c.end_register.ensures c.if-not-end_register.true in let k = c.take_back-taken.ensures.path in
     let same = same_clone c.end_register.new.party _ c.args.clone.value c.take_back-taken.result.value (stands _ _ _ _ _ x.3) c.take_back-taken.ensures.same in
     was_notified g.A.Wake.cloned g.A.Wake.woken g.A.Wake.woken_by_ref c.args.awaiter.now.awaiter.now _ _ _ _ _ x.0 k.0 x.1 _ c.args.clone.value x.2 k.1 c.requires.cloned (subst (λ a. (told : g.row.A-Record.Denot) × g.A.Wake.woken a told) same (assumption c)) x.3 k.2 c.note_clone_woken.ensures

@@ -4,6 +4,7 @@ use Rattle.task_cell.proofs.Moved.{stands, limit_is}
 use Rattle.task_cell.proofs.Running.{shut, started, noted_cell, noted_limit, noted_ready, noted_pending, run_closed, run_ready, run_pending}
 use Rattle.task_core.specs.Yielded.{polled}
 use Rattle.task_cell.specs.Belongs.{HasYielded, IsContinued}
+use Rattle.task_steps.specs.declared.kept.Kept.{Kept}
 use Rattle.task_cell.proofs.cell.block.Share.run.Goals as goal
 
 pub end_closed_run-requires-clause-cell : goal.end_closed_run-requires-clause-cell
@@ -38,8 +39,8 @@ end_ready_run-ended-requires-clause-party g c = let p = c.poll_future-share.ensu
     (Future p.once.1, stands _ _ _ _ _ (noted_ready _ _ _ _ _ _ p.once.3 c.in-Ready.is))
 
 pub end_ready_run-ended-requires-clause-yielded : goal.end_ready_run-ended-requires-clause-yielded
-end_ready_run-ended-requires-clause-yielded g c = let p = c.poll_future-share.ensures in subst (λ s. HasYielded s c.in-Ready.output) (sym p.share)
-    (record { before = p.once.0; after = p.once.1; continued = p.once.5; answered = subst (λ answer. g.F.Yields.moves p.once.0 answer p.once.1) c.in-Ready.is p.once.6 })
+end_ready_run-ended-requires-clause-yielded g c = let p = c.poll_future-share.ensures in subst (λ (k : Kept g.row.F.Denot g.row.F-Output.Denot g.F.Yields). HasYielded c.poll_future-share.result.0 k.output) (sym c.new.ensures) (subst (λ s. HasYielded s c.in-Ready.output) (sym p.share)
+    (record { before = p.once.0; after = p.once.1; continued = p.once.5; answered = subst (λ answer. g.F.Yields.moves p.once.0 answer p.once.1) c.in-Ready.is p.once.6 }))
 
 pub returns-in-Ready : goal.returns-in-Ready
 returns-in-Ready g c = let s = started c.args.party c.begin_run-party.result.0 c.begin_run-party.result.1 c.begin_run-party.ensures c.if-not-started.false in let p = c.poll_future-share.ensures in
