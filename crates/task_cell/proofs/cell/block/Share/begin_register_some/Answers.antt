@@ -2,6 +2,7 @@ use Rattle.task_cell.proofs.Vocabulary.{subst, IfOk, IfErr, HasChanged, HasEnded
 use Rattle.task_cell.specs.Belongs.{limit_in}
 use Rattle.task_steps.specs.PollScripts.{to_begin_register}
 use Rattle.task_cell.proofs.PollMoved.{may_register, found_one, begun}
+use Rattle.task_cell.specs.Belongs.{values_in}
 use Rattle.task_cell.proofs.cell.block.Share.begin_register_some.Goals as goal
 
 pub alter_some-requires-clause-allowed : goal.alter_some-requires-clause-allowed
@@ -12,8 +13,8 @@ alter_some-requires-clause-shares g c = let s = c.requires.party in (may_registe
 
 pub returns-in-Ok : goal.returns-in-Ok
 returns-in-Ok g c = let s = c.requires.party in let e = c.in_ok-alter_some.ensures in let p = c.args.party.now in let q = c.alter_some.new.party in
-    begun _ s.0 _ p q s.1 e.cell (subst (λ x. IfOk x (λ row. HasChanged _ (limit_in c.args.self.now) to_begin_register row p.seat.me q.seat.me)) c.in-Ok.is e.changed)
+    begun _ s.0 _ p q s.1 e.cell (subst (λ x. IfOk x (λ row. HasChanged (values_in c.args.self.now) (limit_in c.args.self.now) to_begin_register row p.seat.me q.seat.me)) c.in-Ok.is e.changed)
 
 pub returns-in-Err : goal.returns-in-Err
 returns-in-Err g c = let s = c.requires.party in let e = c.in_ok-alter_some.ensures in let p = c.args.party.now in let q = c.alter_some.new.party in
-    found_one _ s.0 _ p q s.1 e.cell (subst (λ x. IfErr x (λ w. HasEnded _ (limit_in c.args.self.now) to_begin_register w p.seat.me q.seat.me)) c.in-Err.is e.ended)
+    found_one _ s.0 _ p q s.1 e.cell (subst (λ x. IfErr x (λ w. HasEnded (values_in c.args.self.now) (limit_in c.args.self.now) to_begin_register w p.seat.me q.seat.me)) c.in-Err.is e.ended)

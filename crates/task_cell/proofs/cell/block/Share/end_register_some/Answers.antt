@@ -2,6 +2,7 @@ use Rattle.task_cell.proofs.Vocabulary.{subst, IfOk, IfErr, HasChanged, HasEnded
 use Rattle.task_cell.specs.Belongs.{limit_in}
 use Rattle.task_steps.specs.PollScripts.{to_end_register}
 use Rattle.task_cell.proofs.PollMoved.{may_give_back, ended, notified}
+use Rattle.task_cell.specs.Belongs.{values_in}
 use Rattle.task_cell.proofs.cell.block.Share.end_register_some.Goals as goal
 
 pub alter_some-requires-clause-allowed : goal.alter_some-requires-clause-allowed
@@ -12,8 +13,8 @@ alter_some-requires-clause-shares g c = let s = c.requires.party in (may_give_ba
 
 pub returns-in-Ok : goal.returns-in-Ok
 returns-in-Ok g c = let s = c.requires.party in let e = c.in_ok-alter_some.ensures in let p = c.args.party.now in let q = c.alter_some.new.party in
-    ended _ s.0 _ (Some s.1) p q s.2 e.cell (subst (λ x. IfOk x (λ row. HasChanged _ (limit_in c.args.self.now) to_end_register row p.seat.me q.seat.me)) c.in-Ok.is e.changed)
+    ended _ s.0 _ (Some s.1) p q s.2 e.cell (subst (λ x. IfOk x (λ row. HasChanged (values_in c.args.self.now) (limit_in c.args.self.now) to_end_register row p.seat.me q.seat.me)) c.in-Ok.is e.changed)
 
 pub returns-in-Err : goal.returns-in-Err
 returns-in-Err g c = let s = c.requires.party in let e = c.in_ok-alter_some.ensures in let p = c.args.party.now in let q = c.alter_some.new.party in
-    notified _ s.0 _ (Some s.1) p q s.2 e.cell (subst (λ x. IfErr x (λ w. HasEnded _ (limit_in c.args.self.now) to_end_register w p.seat.me q.seat.me)) c.in-Err.is e.ended)
+    notified _ s.0 _ (Some s.1) p q s.2 e.cell (subst (λ x. IfErr x (λ w. HasEnded (values_in c.args.self.now) (limit_in c.args.self.now) to_end_register w p.seat.me q.seat.me)) c.in-Err.is e.ended)

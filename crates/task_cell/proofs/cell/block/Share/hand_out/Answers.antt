@@ -15,7 +15,7 @@ load-requires-clause-allowed g c = let s = c.requires.party in let e = c.take_wo
 
 pub into_output-output-requires : goal.into_output-output-requires
 into_output-output-requires g c = let s = c.requires.party in let e = c.take_work.ensures in let x = lies_output (values_in c.args.self.now) s.1 s.3 in
-    record { clause-1 = (x.0, sym (exchanges_work c.args.party.now c.args.party.now (record { seat = c.take_work.new.seat }) [] (TookOutput s.0) s.1 c.take_work.result.slot Empty [] (at_rest (TookOutput s.0) (work_first s.1 []) c.args.party.now c.args.party.now s.2 refl refl) e.0 e.2 e.3).0 ∙ x.1) }
+    (x.0, sym (exchanges_work c.args.party.now c.args.party.now (record { seat = c.take_work.new.seat }) [] (TookOutput s.0) s.1 c.take_work.result.slot Empty [] (at_rest (TookOutput s.0) (work_first s.1 []) c.args.party.now c.args.party.now s.2 refl refl) e.0 e.2 e.3).0 ∙ x.1)
 
 pub returns-clause-yielded : goal.returns-clause-yielded
 returns-clause-yielded g c = let s = c.requires.party in let e = c.take_work.ensures in

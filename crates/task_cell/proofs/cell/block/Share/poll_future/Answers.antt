@@ -22,4 +22,4 @@ returns-clause-once g c = let s = c.requires.party in let p = c.polled-answer.en
 
 pub polled-answer-requires : goal.polled-answer-requires
 polled-answer-requires g c = let s = c.requires.party in let f = lies_future (values_in c.args.self) s.0 s.2 in
-    record { clause-1 = (f.0, sym (same_work s.0 c.first_mut.result.now _ _ _ (ap (λ m. m.1) s.1) c.first_mut.ensures.value) ∙ f.1) }
+    (f.0, sym (same_work s.0 c.first_mut.result.now _ _ _ (ap (λ m. m.1) s.1) c.first_mut.ensures.value) ∙ f.1)
