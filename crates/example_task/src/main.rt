@@ -1,10 +1,16 @@
-//! A task whose future adds two numbers: it is spawned, run once, and polled for its output.
+//! A task whose future adds two numbers: it is spawned, run once, and polled for its output, which is proved to be the sum.
 #![tactic(auto)]
 
-ghost use Rattle.std.specs.Prelude.{⊤};
+ghost use Rattle.std.specs.Prelude.{◌≡◌, ◌+◌, ⊤, IfOk};
+ghost use Rattle.task_cell.specs.PollPaths.{IfOutput};
+ghost use Rattle.task_core.specs.declared.traits.Poll.{Poll};
 
-use async_task::{Future, Poll, Schedule, ScheduleInfo, Task, Wake, Yields, spawn};
+use async_task::{
+    Future, Poll, Schedule, ScheduleInfo, Task, TaskClosed, TaskPoll, Wake, Yields, spawn,
+};
+use std::alloc::{AllocError, Allocator};
 use std::io;
+use std::sync::Wait;
 
 /// A future that adds two numbers.
 #[derive(Drop)]
@@ -12,6 +18,8 @@ struct Sum(u32, u32);
 
 impl Yields for Sum {
     type Output = u64;
+
+    ghost moves = { λ sum answer _. answer ≡ Poll.Ready (sum.0 + sum.1) };
 }
 
 impl<W> Future<W> for Sum {
@@ -56,9 +64,21 @@ impl Wake for Nobody {
     }
 }
 
-fn main(rt: HostRuntime) -> io::Result<()> {
-    let spawned = spawn(rt, rt.alloc(), Sum(20, 22), Nobody, ())?;
-    let (runnable, mut task): (_, Task<_, _, _, _, Nobody, ()>) = spawned;
+/// Spawns the future, runs it, and polls its Task: an output is the sum of the two numbers.
+fn add<R: Wait + Drop + Copy, B: Allocator + Copy>(
+    rt: R,
+    alloc: B,
+    first: u32,
+    second: u32,
+) -> Result<TaskPoll<Result<u64, TaskClosed>>, AllocError>
+    ensures sum { IfOk result (λ answer. IfOutput answer (λ output. output ≡ first + second)) }
+{
+    let spawned = spawn(rt, alloc, Sum(first, second), Nobody, ())?;
+    let (runnable, mut task): (_, Task<_, _, _, _, Nobody, (), _>) = spawned;
     runnable.run();
-    println!(rt; "{:?}", task.poll(&Nobody))
+    Ok(task.poll(&Nobody))
+}
+
+fn main(rt: HostRuntime) -> io::Result<()> {
+    println!(rt; "{:?}", add(rt, rt.alloc(), 20, 22)?)
 }

@@ -53,6 +53,15 @@ module _ {T : Type 0} {holds : T → Type 0} where
   pub refused : {had : Bool} → Answered holds had Refused had
   refused = record { output = tt; closed = λ impossible. absurd impossible; ended = λ _. tt; stays = λ seen. seen }
 
-  -- an answer after polls that were pending
-  pub goes-on : {first second third : Bool} {answer : TaskPoll (Option T)} → Answered holds first Waits second → Answered holds second answer third → Answered holds first answer third
-  goes-on before after = record { output = after.output; closed = after.closed; ended = λ seen. after.ended (before.stays seen); stays = λ seen. after.stays (before.stays seen) }
+  -- what holds of an output follows from what another fact says of it
+  if-output : {facts : T → Type 0} (answer : TaskPoll (Option T)) → ((output : T) → facts output → holds output) → IfSomeOutput answer facts → IfSomeOutput answer holds
+  if-output (Ready (Some output)) follows told = follows output told
+  if-output (Ready None) follows told = tt
+  if-output Waits follows told = tt
+  if-output Refused follows told = tt
+
+  -- an answer after polls that were pending, of a handle of which the same is said
+  pub goes-on : {facts : T → Type 0} {first second third : Bool} {answer : TaskPoll (Option T)} → ((output : T) → facts output → holds output) → Answered holds first Waits second → Answered facts second answer third
+      → Answered holds first answer third
+  goes-on {answer = answer} follows before after =
+      record { output = if-output answer follows after.output; closed = after.closed; ended = λ seen. after.ended (before.stays seen); stays = λ seen. after.stays (before.stays seen) }

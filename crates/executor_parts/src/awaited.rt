@@ -1,9 +1,10 @@
 //! What a thread waits for: a handle that is polled until its task is over.
 ghost use Rattle.std.specs.Prelude.{◌≡◌, true, false, refl, Result};
-ghost use Rattle.std.proofs.Common.{◌∙◌};
+ghost use Rattle.std.proofs.Common.{◌∙◌, subst};
 ghost use Rattle.task_core.specs.declared.traits.TaskPoll.{TaskPoll};
 ghost use Rattle.async_task.specs.declared.task.TaskClosed.{TaskClosed};
 ghost use Rattle.task_steps.specs.Steps.{saw_ended};
+ghost use Rattle.task_cell.specs.Belongs.{HasYielded};
 ghost use Rattle.task_cell.specs.Calls.{deeds};
 ghost use Rattle.async_task.specs.HandlePaths.{fallible_answer, is_closed};
 ghost use Rattle.executor_parts.specs.Answered.{Answered, WasPolled, cancel_answer, goes-on, refused};
@@ -45,11 +46,11 @@ where
 {
     type Output = F::Output;
 
-    ghost answers = { λ before answer after. Answered (λ output. ∥ F.Yields.meets output ∥₁) (saw_ended (deeds before.inner.party)) (fallible_answer answer) (saw_ended (deeds after.inner.party)) × (after.inner.share ≡ before.inner.share) × (after.around ≡ before.around) };
+    ghost answers = { λ before answer after. Answered (λ output. ∥ F.Yields.meets output ∥₁ × HasYielded before.inner.share output) (saw_ended (deeds before.inner.party)) (fallible_answer answer) (saw_ended (deeds after.inner.party)) × (after.inner.share ≡ before.inner.share) × (after.around ≡ before.around) };
 
     ghost refuses = { λ _. (refused, refl, refl) };
 
-    ghost goes_on = { λ _ _ _ _ before after. (goes-on before.0 after.0, after.1 ∙ before.1, after.2 ∙ before.2) };
+    ghost goes_on = { λ _ _ _ _ before after. (goes-on (λ output told. (told.0, subst (λ share. HasYielded share output) before.1 told.1)) before.0 after.0, after.1 ∙ before.1, after.2 ∙ before.2) };
 
     fn poll_once(&mut self, awaiter: &A) -> TaskPoll<Result<F::Output, TaskClosed>> {
         self.poll(awaiter)
@@ -70,11 +71,11 @@ where
 {
     type Output = Option<F::Output>;
 
-    ghost answers = { λ before answer after. Answered (λ output. ∥ F.Yields.meets output ∥₁) (saw_ended (deeds before.task.inner.party)) (cancel_answer answer) (saw_ended (deeds after.task.inner.party)) × (after.task.inner.share ≡ before.task.inner.share) × (after.task.around ≡ before.task.around) × (is_closed answer ≡ false) × (WasPolled answer → after.cancelled ≡ true) };
+    ghost answers = { λ before answer after. Answered (λ output. ∥ F.Yields.meets output ∥₁ × HasYielded before.task.inner.share output) (saw_ended (deeds before.task.inner.party)) (cancel_answer answer) (saw_ended (deeds after.task.inner.party)) × (after.task.inner.share ≡ before.task.inner.share) × (after.task.around ≡ before.task.around) × (is_closed answer ≡ false) × (WasPolled answer → after.cancelled ≡ true) };
 
     ghost refuses = { λ _. (refused, refl, refl, refl, λ impossible. absurd impossible) };
 
-    ghost goes_on = { λ _ _ _ _ before after. (goes-on before.0 after.0, after.1 ∙ before.1, after.2 ∙ before.2, after.3, after.4) };
+    ghost goes_on = { λ _ _ _ _ before after. (goes-on (λ output told. (told.0, subst (λ share. HasYielded share output) before.1 told.1)) before.0 after.0, after.1 ∙ before.1, after.2 ∙ before.2, after.3, after.4) };
 
     fn poll_once(&mut self, awaiter: &A) -> TaskPoll<Result<Option<F::Output>, TaskClosed>> {
         match self.poll(awaiter) {

@@ -32,7 +32,7 @@ module _ {R F Q M A B O T : Type 0} {G : Ghosts F O} where
   -- the share is there still after a step, and its party is one of its cell
   pub live_after : (share : Share R F Q M A B O G) (maybe : MaybeShare R F Q M A B O G) (b : Bool) (p q : Party F T A) (path : List Deed) (at : Position) (held : List (ℕ × TaskPlace F T A)) → IsOf share p → limit_of p ≡ limit_in share → Leaves share maybe b → b ≡ true → DidWith path at held p q
       → (maybe.maybe.there ≡ true) × (q.seat.block ≡ maybe.maybe.id) × (limit_of q ≡ maybe.maybe.key.limit)
-  live_after share maybe b p q path at held cell limit l is g = (l.is_there ∙ is, g.cell ∙ (cell ∙ sym l.cell.0), limit_is p q path at held g ∙ (limit ∙ sym l.limit))
+  live_after share maybe b p q path at held cell limit l is g = (l.is_there ∙ is, g.cell ∙ (cell ∙ sym l.cell.0), limit_is p q path at held g ∙ (limit ∙ sym (ap (λ k. k.limit) l.terms)))
 
 module _ {R F Q M A B O T : Type 0} {G : Ghosts F O} where
   pub live_rest : (share : Share R F Q M A B O G) (maybe : MaybeShare R F Q M A B O G) (b : Bool) (p q : Party F T A) → IsOf share p → limit_of p ≡ limit_in share → Leaves share maybe b → b ≡ true → GivesTaskUp p q b
@@ -41,14 +41,14 @@ module _ {R F Q M A B O T : Type 0} {G : Ghosts F O} where
   live_rest share maybe false p q cell limit l e d = absurd (cc)
 
 -- the row of a detach, by what is in its place then
-pub shared_so : {values : Values _ _} (x y : Hand) → DetachesRow values x.party y.party Shared → IsGone y → Detaches x y None 1
-shared_so x y d gone = is_shared d.0 d.1 gone d.2
+pub shared_so : (values : Values _ _) (x y : Hand) → DetachesRow values x.party y.party Shared → IsGone y → Detaches x y None 1
+shared_so values x y d gone = is_shared d.0 d.1 gone d.2
 
-pub last_so : {values : Values _ _} (x y : Hand) → DetachesRow values x.party y.party Last → Becomes x y → Detaches x y None 9
-last_so x y d b = is_last d.0 d.1 d.2 b d.3
+pub last_so : (values : Values _ _) (x y : Hand) → DetachesRow values x.party y.party Last → Becomes x y → Detaches x y None 9
+last_so values x y d b = is_last d.0 d.1 d.2 b d.3
 
-pub unclaimed_so : {values : Values _ _} (x y : Hand) → DetachesRow values x.party y.party Unclaimed → Becomes x y → Detaches x y None 5
-unclaimed_so x y d b = is_unclaimed d.0 d.1 d.2 (output_unknown d.1 d.3) b d.4
+pub unclaimed_so : (values : Values _ _) (x y : Hand) → DetachesRow values x.party y.party Unclaimed → Becomes x y → Detaches x y None 5
+unclaimed_so values x y d b = is_unclaimed d.0 d.1 d.2 (output_unknown values d.1 d.3) b d.4
 
 pub rest_last : (x y : Hand) (b : Bool) → b ≡ true → GivesTaskUp x.party y.party b → Becomes x y → EndsDetach x y 9
 rest_last x y true e d k = leaves_none d.0 d.1 d.2 k d.3
@@ -62,4 +62,4 @@ module _ {R F Q M A B O T : Type 0} {G : Ghosts F O} where
   -- the Runnable that was handed over, by the share that the step brought
   pub live_runnable : (share : Share R F Q M A B O G) (maybe : MaybeShare R F Q M A B O G) (b : Bool) (q r : Party F T A) → q.seat.block ≡ share.block.id → limit_of q ≡ limit_in share → Leaves share maybe b → b ≡ true → IsNew as_runnable q r
       → (maybe.maybe.there ≡ true) × (r.seat.block ≡ maybe.maybe.id) × (limit_of r ≡ maybe.maybe.key.limit)
-  live_runnable share maybe b q r cell limit l is n = (l.is_there ∙ is, n.cell ∙ (cell ∙ sym l.cell.0), same_limit q r n ∙ (limit ∙ sym l.limit))
+  live_runnable share maybe b q r cell limit l is n = (l.is_there ∙ is, n.cell ∙ (cell ∙ sym l.cell.0), same_limit q r n ∙ (limit ∙ sym (ap (λ k. k.limit) l.terms)))

@@ -18,7 +18,7 @@ module _ {R F Q M A B O T : Type 0} {G : Ghosts F O} where
   of_cell before share p live taken = live.1 ∙ sym taken.0
 
   pub of_limit : (before : MaybeShare R F Q M A B O G) (share : Share R F Q M A B O G) (p : Party F T A) → Lives before p → Taken before share → limit_of p ≡ share.block.key.limit
-  of_limit before share p live taken = live.2 ∙ sym taken.1
+  of_limit before share p live taken = live.2 ∙ sym (ap (λ k. k.limit) taken.1)
 
   -- .. once the party has made steps
   pub lives_on : (before later : MaybeShare R F Q M A B O G) (share : Share R F Q M A B O G) (p q : Party F T A) (path : List Deed) (at : Position) (held : List (ℕ × TaskPlace F T A))
@@ -26,12 +26,12 @@ module _ {R F Q M A B O T : Type 0} {G : Ghosts F O} where
   lives_on before later share p q path at held live taken leaves g = (
     leaves.is_there,
     g.cell ∙ (live.1 ∙ sym (leaves.cell.0 ∙ taken.0)),
-    moved.limit_is p q path at held g ∙ (live.2 ∙ sym (leaves.limit ∙ taken.1)),
+    moved.limit_is p q path at held g ∙ (live.2 ∙ sym (ap (λ k. k.limit) (leaves.terms ∙ taken.1))),
   )
 
   -- .. or none
   pub lives_still : (before later : MaybeShare R F Q M A B O G) (share : Share R F Q M A B O G) (p : Party F T A) → Lives before p → Taken before share → Leaves share later true → Lives later p
-  lives_still before later share p live taken leaves = (leaves.is_there, live.1 ∙ sym (leaves.cell.0 ∙ taken.0), live.2 ∙ sym (leaves.limit ∙ taken.1))
+  lives_still before later share p live taken leaves = (leaves.is_there, live.1 ∙ sym (leaves.cell.0 ∙ taken.0), live.2 ∙ sym (ap (λ k. k.limit) (leaves.terms ∙ taken.1)))
 
   -- .. where the step has left the share
   pub lives_left : (before later : MaybeShare R F Q M A B O G) (share : Share R F Q M A B O G) (p q : Party F T A) (path : List Deed) (at : Position) (held : List (ℕ × TaskPlace F T A)) (there : Bool)
@@ -39,7 +39,7 @@ module _ {R F Q M A B O T : Type 0} {G : Ghosts F O} where
   lives_left before later share p q path at held there live taken leaves is g = (
     leaves.is_there ∙ is,
     g.cell ∙ (live.1 ∙ sym (leaves.cell.0 ∙ taken.0)),
-    moved.limit_is p q path at held g ∙ (live.2 ∙ sym (leaves.limit ∙ taken.1)),
+    moved.limit_is p q path at held g ∙ (live.2 ∙ sym (ap (λ k. k.limit) (leaves.terms ∙ taken.1))),
   )
 
   -- another share of the cell, which a call by reference has brought, with its party
@@ -47,7 +47,7 @@ module _ {R F Q M A B O T : Type 0} {G : Ghosts F O} where
       → Lives later n × (later.maybe.id ≡ before.maybe.id) × (later.maybe.value ≡ before.maybe.value)
   brings before later share new n taken same leaves cell limit =
       let of_new : limit_in share ≡ limit_in new = share.fitting.0 ∙ (sym (ap (λ z. z.1.limit) same) ∙ sym new.fitting.0) in (
-        (leaves.is_there, cell ∙ sym (leaves.cell.0 ∙ ap (λ z. z.0) same), limit ∙ (of_new ∙ sym leaves.limit)),
+        (leaves.is_there, cell ∙ sym (leaves.cell.0 ∙ ap (λ z. z.0) same), limit ∙ (of_new ∙ sym (ap (λ k. k.limit) leaves.terms))),
         leaves.cell.0 ∙ (ap (λ z. z.0) same ∙ taken.0),
         leaves.cell.1 ∙ (ap (λ z. z.1) same ∙ taken.2),
       )
@@ -55,7 +55,7 @@ module _ {R F Q M A B O T : Type 0} {G : Ghosts F O} where
   -- the record of a call by reference, which lies beside a share that is gone
   pub records : (before gone : MaybeShare R F Q M A B O G) (share : Share R F Q M A B O G) (path : List Deed) (p : Party F T A) → Taken before share → Leaves share gone false → HasMade share path p
       → (gone.maybe.there ≡ false) × (p.seat.block ≡ before.maybe.id) × (p.seat.me ≡ (view before.maybe.key.limit (member as_lent (after path []) ∷ []), []))
-  records before gone share path p taken leaves made = (leaves.is_there, made.0 ∙ taken.0, made.1 ∙ ap (λ l. (view l (member as_lent (after path []) ∷ []), [])) taken.1)
+  records before gone share path p taken leaves made = (leaves.is_there, made.0 ∙ taken.0, made.1 ∙ ap (λ k. (view k.limit (member as_lent (after path []) ∷ []), [])) taken.1)
 
   -- .. by a share of the same cell, which a step that was not made has handed back
   pub lives_kept : (before later : MaybeShare R F Q M A B O G) (share kept : Share R F Q M A B O G) (p q : Party F T A) (path : List Deed) (at : Position) (held : List (ℕ × TaskPlace F T A))
@@ -64,4 +64,4 @@ module _ {R F Q M A B O T : Type 0} {G : Ghosts F O} where
       lives_on before later kept p q path at held live (same.0 ∙ taken.0, same.2 ∙ taken.1, same.1 ∙ taken.2) leaves g
 
   pub lives_with : (before later : MaybeShare R F Q M A B O G) (share : Share R F Q M A B O G) (p q : Party F T A) → Lives before p → Taken before share → Leaves share later true → (q.seat.block ≡ p.seat.block) × (limit_of q ≡ limit_of p) → Lives later q
-  lives_with before later share p q live taken leaves same = (leaves.is_there, same.0 ∙ (live.1 ∙ sym (leaves.cell.0 ∙ taken.0)), same.1 ∙ (live.2 ∙ sym (leaves.limit ∙ taken.1)))
+  lives_with before later share p q live taken leaves same = (leaves.is_there, same.0 ∙ (live.1 ∙ sym (leaves.cell.0 ∙ taken.0)), same.1 ∙ (live.2 ∙ sym (ap (λ k. k.limit) (leaves.terms ∙ taken.1))))

@@ -57,9 +57,9 @@ module _ {F T A : Type 0} where
   claimed_stands w path p q due c e = let i = poll_number (position p) in
       (i, c.output, subst (λ (b : Bool). StandsWith (notifies b (OfClaim i)) (work_first c.output []) q) (sym e) (stands p q path (notifies w.awaiter (OfClaim i)) (work_first c.output []) c.did))
 
-  claimed_goes : {values : Values F T} (claims : State → List Deed) (i : ℕ) (w : State) (z : Slot F T) (p q r : Party F T A) (a : ℕ) → has_output w ≡ true → IsOutput values z → DidWith (claims w) (notifies w.awaiter (OfClaim i)) (work_first z []) p q → ClaimGoesOn w.awaiter i z q r a → Answers i claims p r a
-  claimed_goes claims i w z p q r _ there o g (has_it_now notice passes d) = has_it w z notice there (output_unknown z o) passes (did_then p q r (claims w) notice (notifies w.awaiter (OfClaim i)) (TookOutput i) (work_first z []) (work_first z []) g d)
-  claimed_goes claims i w z p q r _ there o g (claim_takes due t) = has_it_and_takes w z there (output_unknown z o) due (
+  claimed_goes : (values : Values F T) (claims : State → List Deed) (i : ℕ) (w : State) (z : Slot F T) (p q r : Party F T A) (a : ℕ) → has_output w ≡ true → IsOutput values z → DidWith (claims w) (notifies w.awaiter (OfClaim i)) (work_first z []) p q → ClaimGoesOn w.awaiter i z q r a → Answers i claims p r a
+  claimed_goes values claims i w z p q r _ there o g (has_it_now notice passes d) = has_it w z notice there (output_unknown values z o) passes (did_then p q r (claims w) notice (notifies w.awaiter (OfClaim i)) (TookOutput i) (work_first z []) (work_first z []) g d)
+  claimed_goes values claims i w z p q r _ there o g (claim_takes due t) = has_it_and_takes w z there (output_unknown values z o) due (
     t.0,
     t.1,
     t.2,
@@ -70,9 +70,9 @@ module _ {F T A : Type 0} where
 
   pub answers_claimed : {values : Values F T} (claims : State → List Deed) (w : State) (p q r : Party F T A) (due : Bool) (a : ℕ) → ClaimsOutput values w (claims w) p q → due ≡ w.awaiter
       → ((i : ℕ) (z : Slot F T) → StandsWith (notifies due (OfClaim i)) (work_first z []) q → ClaimGoesOn due i z q r a) → Answers (poll_number (position p)) claims p r a
-  answers_claimed claims w p q r due a c e f = let i = poll_number (position p) in let held = work_first c.output [] in
+  answers_claimed {values = values} claims w p q r due a c e f = let i = poll_number (position p) in let held = work_first c.output [] in
       let s = subst (λ (b : Bool). StandsWith (notifies b (OfClaim i)) held q) (sym e) (stands p q (claims w) (notifies w.awaiter (OfClaim i)) held c.did) in
-      claimed_goes claims i w c.output p q r a c.there c.is_output c.did (subst (λ (b : Bool). ClaimGoesOn b i c.output q r a) e (f i c.output s))
+      claimed_goes values claims i w c.output p q r a c.there c.is_output c.did (subst (λ (b : Bool). ClaimGoesOn b i c.output q r a) e (f i c.output s))
 
   -- .. and one that has found the task ended
   ended_goes : (claims : State → List Deed) (i : ℕ) (w : State) (p q r : Party F T A) (a : ℕ) → has_ended w ≡ true → Did (row Look w ∷ []) (Notifier (OfPoll i)) p q → EndGoesOn i q r a → Answers i claims p r a

@@ -12,7 +12,7 @@ use Rattle.task_steps.specs.Rule.{IsFuture, IsOutput}
 use Rattle.task_steps.specs.Values.{Values, values_of}
 use Rattle.std.specs.Prelude.{Bool, true, false}
 
-module _ {F T A : Type 0} {values : Values F T} where
+module _ {F T : Type 0} (values : Values F T) where
   pub future_unknown : (y : Slot F T) → IsFuture values y → IsFuture (unknown {F = F} {T = T}) y
   future_unknown Empty is = is
   future_unknown (Future f) is = tt
@@ -23,9 +23,10 @@ module _ {F T A : Type 0} {values : Values F T} where
   output_unknown (Future f) is = is
   output_unknown (Output x) is = tt
 
+module _ {F T A : Type 0} {values : Values F T} where
   pub takes_up_unknown : (p q : Party F T A) (b : Bool) → TakesUp values p q b → TakesUp unknown p q b
-  takes_up_unknown p q false (finds_closed w y e is g) = finds_closed w y e (future_unknown y is) g
-  takes_up_unknown p q true (starts w y e is g) = starts w y e (future_unknown y is) g
+  takes_up_unknown p q false (finds_closed w y e is g) = finds_closed w y e (future_unknown values y is) g
+  takes_up_unknown p q true (starts w y e is g) = starts w y e (future_unknown values y is) g
 
 module _ {F O : Type 0} {G : Ghosts F O} (all : (f : F) (answer : Poll O) (g : F) → G.moves f answer g) (spawned : F) where
   pub known_future : (y : Slot F (Kept F O G)) → IsFuture (unknown {F = F} {T = Kept F O G}) y → IsFuture (values_of G spawned) y

@@ -9,7 +9,7 @@ pub share-share-requires : goal.share-share-requires
 share-share-requires c = record { there = (live_of _ _ c.take-share.ensures.0 c.requires.handle.1).0 }
 
 pub close-answer-requires-clause-cell : goal.close-answer-requires-clause-cell
-close-answer-requires-clause-cell c = let l = live_of _ _ c.take-share.ensures.0 c.requires.handle.1 in (l.1 ∙ sym c.share-share.ensures.0, l.2 ∙ sym c.share-share.ensures.1)
+close-answer-requires-clause-cell c = let l = live_of _ _ c.take-share.ensures.0 c.requires.handle.1 in (l.1 ∙ sym c.share-share.ensures.0, l.2 ∙ sym (ap (λ k. k.limit) c.share-share.ensures.1))
 
 pub close-answer-requires-clause-party : goal.close-answer-requires-clause-party
 close-answer-requires-clause-party c = let s = c.requires.party in (s.0, subst (λ x. Stands (as_task s.0) x.party) (sym c.take-share.ensures.0) s.1)
@@ -19,7 +19,7 @@ returns-clause-handle c = let p = c.put.ensures.0 in let e = c.take-share.ensure
   c.put.ensures.1,
   ap (λ x. x.share.maybe.there) p ∙ m.is_there,
   λ i. ((ap (λ x. x.share.maybe.id) p ∙ (m.cell.0 ∙ (s.0 ∙ ap (λ x. x.share.maybe.id) e))) i, (ap (λ x. x.share.maybe.value) p ∙ (m.cell.1 ∙ (s.2 ∙ ap (λ x. x.share.maybe.value) e))) i),
-  ap (λ x. x.share.maybe.key) p ∙ (m.limit ∙ (s.1 ∙ ap (λ x. x.share.maybe.key) e)),
+  ap (λ k. k.limit) (ap (λ x. x.share.maybe.key) p ∙ (m.terms ∙ (s.1 ∙ ap (λ x. x.share.maybe.key) e))),
 )
 
 pub returns-clause-path : goal.returns-clause-path

@@ -13,4 +13,4 @@ returns-in-Ok-Ok c x of = let same = subst (λ o. IfOk o (λ n. cell_of n.0 ≡ 
 
 pub returns-in-Ok-Err : goal.returns-in-Ok-Err
 returns-in-Ok-Err c x of = let r = subst (λ o. IfErr o (λ p. (path : List Deed) × GainPath (limit_in c.args.share.now) false path × HasMade c.args.share.now path p)) c.in-Ok-Err.field-0-is c.in-Ok-Err.ensures.at_limit in
-    at_limit r.0 (subst (λ l. GainPath l false r.0) of.1 r.1) (records x.share c.gone.result c.args.share.now r.0 c.in-Ok-Err.record of c.gone.ensures r.2)
+    at_limit r.0 (subst (λ l. GainPath l false r.0) (ap (λ k. k.limit) of.1) r.1) (records x.share c.gone.result c.args.share.now r.0 c.in-Ok-Err.record of c.gone.ensures r.2)

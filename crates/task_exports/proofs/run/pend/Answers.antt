@@ -7,6 +7,7 @@ use Rattle.task_cell.proofs.Sharing.{same_block, same_limit}
 use Rattle.task_cell.proofs.RunEnds.{cleared_first, left_pending, by_end}
 use Rattle.task_exports.specs.Answers.{pend_missed, closed, woken, idle, orphaned}
 use Rattle.task_exports.proofs.Live.{of_cell, of_limit, lives_on, lives_kept}
+use Rattle.task_exports.proofs.Unknown.{known_future}
 use Rattle.task_exports.proofs.run.pend.Goals as goal
 
 pub answer_pending-found-requires-clause-party : goal.answer_pending-found-requires-clause-party
@@ -21,7 +22,7 @@ end_pending_some-requires-clause-cell c = let s = c.requires.party in let a = le
     (a.cell ∙ of_cell c.args.hand.share c.share-share.result c.args.hand.party c.requires.hand c.share-share.ensures, limit_is _ _ _ _ _ a ∙ of_limit c.args.hand.share c.share-share.result c.args.hand.party c.requires.hand c.share-share.ensures)
 
 pub end_pending_some-requires-clause-party : goal.end_pending_some-requires-clause-party
-end_pending_some-requires-clause-party c = let s = c.requires.party in (s.0, stands _ _ _ _ _ (left_pending _ _ _ _ (c.answer_pending-found.ensures.path (work_first s.0 []) s.1) (sym c.closed.ensures ∙ c.if-closed.false)), s.2)
+end_pending_some-requires-clause-party c = let s = c.requires.party in (s.0, stands _ _ _ _ _ (left_pending _ _ _ _ (c.answer_pending-found.ensures.path (work_first s.0 []) s.1) (sym c.closed.ensures ∙ c.if-closed.false)), known_future (λ _ _ _. tt) c.share-share.result.block.key.future.value s.0 s.2)
 
 pub share-requires : goal.share-requires
 share-requires c = let l = subst (λ t. IfOk t (λ r. Leaves c.share-share.result r.1 (not (ends_run r.0)))) c.in-Ok-Ok.field-0-is c.in-Ok-Ok.ensures.share in record { there = l.is_there ∙ ap (λ x. not (ends_run x)) c.in-Rescheduled.is }

@@ -3,6 +3,7 @@ use Rattle.task_steps.specs.Standing.{as_runnable}
 use Rattle.task_cell.proofs.Moved.{stands}
 use Rattle.task_cell.proofs.WakerMoves.{fresh_stands}
 use Rattle.task_exports.proofs.Given.{handed_on, new_limit, and_ends}
+use Rattle.std.proofs.Common.{ap}
 use Rattle.task_exports.proofs.schedule.hand_on.Goals as goal
 
 pub hand_over-runnable-requires-clause-party : goal.hand_over-runnable-requires-clause-party
@@ -16,7 +17,7 @@ invariant_of-ended c = let s = c.requires.party in record { ended = stands _ _ _
 
 pub returns-clause-runnable : goal.returns-clause-runnable
 returns-clause-runnable c = let n = c.hand_over-runnable.ensures.runnable in let m = c.into_maybe.ensures in (
-  (m.is_there, n.cell ∙ (c.requires.cell.0 ∙ sym m.cell.0), new_limit _ _ _ n ∙ (c.requires.cell.1 ∙ sym m.limit)),
+  (m.is_there, n.cell ∙ (c.requires.cell.0 ∙ sym m.cell.0), new_limit _ _ _ n ∙ (c.requires.cell.1 ∙ sym (ap (λ k. k.limit) m.terms))),
   m.cell,
   fresh_stands as_runnable _ c.hand_over-runnable.result n.is,
 )
