@@ -1,14 +1,16 @@
 -- The machine values of the structs: a pointer and a marker, or a marker alone. Assumes `Logic`.
-use Rattle.std.proofs.Common.{◌≡◌, T, List, [], ◌∷◌, ◌++◌, refl, ap, ◌∙◌, sym, subst}
+use Rattle.std.proofs.Common.{◌≡◌, ℕ, T, List, [], ◌∷◌, ◌++◌, refl, ap, ◌∙◌, sym, subst}
 use seplogic.Ra.Ura.{Ura}
 use mir.Syntax.{ty_ptr, ty_struct, tcons, tnil}
 use mir.Val.{Val, vstruct, vcons, vnil, of_list, has_ty, WT}
-use base.Logic.{ent, emp}
+use base.Logic.{ent, sep, emp, id⊢}
+use base.Fml.{Lft, fhide}
 use types.Logic.{Logic, sem}
 use denote.RattleType.{RattleType}
 use denote.Laws.{Is}
 use denote.Opens.{Opens}
 use denote.Copied.{Struct-Copied}
+use denote.Memory.{hidden_shr}
 use denote.RawPtr.{Ptr, InBlock, block_ptr, null_ptr, ptr_val}
 use denote.Shadow.{makes_shadow}
 use denote.Struct.Laws.{RawPtr-copy, field_copy}
@@ -19,6 +21,7 @@ use Rattle.std.specs.contracts.marker.PhantomData as phantom
 use Rattle.std.specs.declared.alloc.Allocator as Alloc
 use Rattle.counted_block.specs.declared.rule.BlockRule.{Ghosts}
 use Rattle.counted_block.specs.Blocks.{BlockId, place}
+use Rattle.counted_block.specs.Held.{kept_of, share_shown, hold_shown}
 use Rattle.counted_block.specs.contracts.share.Share as share
 use Rattle.counted_block.specs.contracts.share.MaybeShare as maybe_share
 use Rattle.counted_block.specs.contracts.hold.Hold as hold
@@ -85,6 +88,13 @@ module _ (S W V K Y T' A : RattleType) (g : Ghosts Y.Denot S.Denot W.Denot V.Den
   pub maybe_hold_told : (p : Ptr) (vs : List Val) → Is MaybeHoldData (p, (tt, tt)) vs → vs ≡ ptr_and_marker p ∷ []
   maybe_hold_told p vs is = is.1.0 ∙ ap (λ (ws : List Val). vstruct (of_list (ws ++ (is.0.1.0 ++ []))) ∷ []) is.1.1.0 ∙ ap (λ (ws : List Val). vstruct (of_list (ptr_val p ∷ (ws ++ []))) ∷ []) is.1.1.1.0.1.0
 
+  -- the same of a block's place
+  pub share_at : (p : Ptr) (z : BlockId) → p ≡ place z → (vs : List Val) → Is ShareData (p, (tt, tt)) vs → vs ≡ ptr_and_marker (place z) ∷ []
+  share_at p z at vs is = share_told p vs is ∙ ap (λ (r : Ptr). ptr_and_marker r ∷ []) at
+
+  pub hold_at : (p : Ptr) (z : BlockId) → p ≡ place z → (vs : List Val) → Is HoldData (p, (tt, tt)) vs → vs ≡ ptr_and_marker (place z) ∷ []
+  hold_at p z at vs is = hold_told p vs is ∙ ap (λ (r : Ptr). ptr_and_marker r ∷ []) at
+
   pub remains_told : (p : Ptr) (vs : List Val) → Is RemainsData (p, (tt, tt)) vs → vs ≡ ptr_and_marker p ∷ []
   remains_told p vs is = is.1.0 ∙ ap (λ (ws : List Val). vstruct (of_list (ws ++ (is.0.1.0 ++ []))) ∷ []) is.1.1.0 ∙ ap (λ (ws : List Val). vstruct (of_list (ptr_val p ∷ (ws ++ []))) ∷ []) is.1.1.1.0.1.0
 
@@ -109,6 +119,19 @@ module _ (S W V K Y T' A : RattleType) (g : Ghosts Y.Denot S.Denot W.Denot V.Den
 
     pub ledger_made : ent 𝓤 (emp 𝓤) (sem 𝓛 (LedgerData.own_val (tt, tt) (marker_val ∷ [])))
     ledger_made = makes_shadow 𝓛 (LedgerData.own_val (tt, tt) (marker_val ∷ [])) (λ vss. (tt, ((λ uss. (tt, tt)), tt))) ((nil_val ∷ [], tt), (refl, ((tt, (refl, tt)), tt)))
+
+    -- what a `&` to each has: its fields, and what it shows
+    pub share_lent : (κ : Lft) (s : (share.the_row S W V K Y T' A g h).Denot) (b o : ℕ) → ent 𝓤 (sem 𝓛 (hidden_shr (share.the_row S W V K Y T' A g h) κ s b o))
+        (sep 𝓤 (sem 𝓛 (hidden_shr ShareData κ (s.at, (tt, tt)) b o)) (sem 𝓛 (fhide (share_shown S W T' V.coded.code (g.holds s.key) g.out (h.dealloc_token s.heap) s.id s.value s.at κ))))
+    share_lent κ s b o = id⊢ 𝓤 _
+
+    pub hold_lent : (κ : Lft) (s : (hold.the_row S W V K Y T' A g h).Denot) (b o : ℕ) → ent 𝓤 (sem 𝓛 (hidden_shr (hold.the_row S W V K Y T' A g h) κ s b o))
+        (sep 𝓤 (sem 𝓛 (hidden_shr HoldData κ (s.at, (tt, tt)) b o)) (sem 𝓛 (fhide (hold_shown S W T' V.coded.code (g.holds s.key) g.out (h.dealloc_token s.heap) s.id s.value s.at κ))))
+    hold_lent κ s b o = id⊢ 𝓤 _
+
+    pub ledger_lent : (κ : Lft) (s : (ledger.the_row S W V K Y T' A g h).Denot) (b o : ℕ) → ent 𝓤 (sem 𝓛 (hidden_shr (ledger.the_row S W V K Y T' A g h) κ s b o))
+        (sep 𝓤 (sem 𝓛 (hidden_shr LedgerData κ (tt, tt) b o)) (sem 𝓛 (fhide (kept_of S W T' V.coded.code (g.holds s.key) g.out (h.dealloc_token s.heap) s.id s.value))))
+    ledger_lent κ s b o = id⊢ 𝓤 _
 
     pub share_opens : Opens 𝓛 ShareData
     share_opens = (Struct-Copied 𝓛 (shape (share.the_type S W V K Y T' A g h)) (refl, (refl, tt)) (RawPtr-copy.copied M 𝓤 𝓛, ((field_copy (phantom.the_type Marked) tt).copied M 𝓤 𝓛, tt))).opens

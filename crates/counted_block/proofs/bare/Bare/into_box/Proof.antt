@@ -1,23 +1,10 @@
 -- `into_box` makes the box again.
-use Rattle.counted_block.proofs.Names.{◌≡◌, List, [], ◌∷◌, ◌++◌, sym, refl, ap, subst, a_type, dcons, dnil, Val, vptr, inst_fn, SProp, ent, emp, id⊢, ftrue, fsep, flft, sem, ‵, raw, ◌⊛◌, some, later, at_ret, ◌$◌, ◌∵◌, !, qed, by, move, keep, drop, split, split3, join, fsplit, fsplit3, fjoin, fjoin3, pick, suffices, use0, use1, await, rewrite, feq_i, stop, fld, of_opd, no_more, and_then, first, blocks, exec, returns, enter, alloc_all, pass_all, free_all, look_at, get, get_in, sets, is, lands_last, env, sub, whole, tables, fact, fact_i, ◌⊑◌, no, RattleType, plain, Ptr, InBlock, block_ptr, ptr_val, nothing, only, heard, bounded, triple_of, Stays, stay_dropped, walk_of, Goes-dropped, after, proved_at, leaves, fm}
-use base.Logic.{never, fst∗}
-use lib.Dec.{T}
+use Rattle.counted_block.proofs.Names.{◌≡◌, List, [], ◌∷◌, ◌++◌, sym, refl, ap, subst, a_type, dcons, dnil, Val, vptr, inst_fn, SProp, ent, emp, id⊢, ftrue, fsep, flft, sem, ‵, raw, ◌⊛◌, some, later, at_ret, ◌$◌, ◌∵◌, !, qed, by, move, keep, drop, split, split3, join, fsplit, fsplit3, fjoin, fjoin3, pick, suffices, use0, use1, await, rewrite, feq_i, stop, fld, of_opd, no_more, and_then, first, blocks, exec, returns, enter, alloc_all, pass_all, free_all, look_at, get, get_in, sets, is, lands_last, env, sub, whole, tables, fact, fact_i, ◌⊑◌, no, RattleType, plain, Ptr, InBlock, block_ptr, ptr_val, nothing, only, heard, bounded, triple_of, Stays, stay_dropped, walk_of, Goes-dropped, after, proved_at, leaves, fm, never, fst∗, T, has_ty, WT, WpFn, Item, layout, null_ptr, in_a_block, calls_at_last, Lasts, lasts, token, handle_tells, Goes-blank, box_owns, box_out, box_in, ptr_and_marker, pair_typed, bare_told}
 use mir.Raw.{raw as bare_ty}
-use mir.Val.{has_ty, WT}
-use prog.Wp.{WpFn}
-use types.Kit.{Item}
-use denote.Param.{layout}
-use denote.RawPtr.{null_ptr, in_a_block}
-use denote.Triple.Call.{calls_at_last}
-use denote.Triple.Clauses.{Lasts, lasts}
-use Rattle.std.proofs.alloc.Calls.{token, handle_tells, Goes-blank}
-use Rattle.std.specs.Box.Ownership.{box_owns}
 use Rattle.std.proofs.BoxSteps.Form as box
-use Rattle.std.proofs.BoxSteps.Steps.{box_out, box_in}
 use Rattle.std.specs.contracts.boxed.Box.from_raw as callee
 use Rattle.std.proofs.boxed.Box.from_raw.Met as callee_met
 use Rattle.counted_block.specs.contracts.bare.Bare as bare
-use Rattle.counted_block.proofs.Fields.{ptr_and_marker, pair_typed, bare_told}
 use Rattle.counted_block.specs.contracts.bare.Bare.into_box.{ended, clauses}
 use Rattle.counted_block.specs.contracts.bare.Bare.into_box.Key.{name as #self}
 use Rattle.counted_block.proofs.bare.Bare.into_box.Statement.{statement}

@@ -1,20 +1,10 @@
 -- `of` takes the box apart.
-use Rattle.counted_block.proofs.Names.{◌≡◌, List, [], ◌∷◌, ◌++◌, sym, refl, ap, ◌∙◌, subst, a_type, dcons, dnil, Val, inst_fn, SProp, ent, emp, id⊢, ftrue, fsep, flft, sem, ‵, raw, ◌⊛◌, some, later, ◌$◌, ◌∵◌, !, qed, by, move, keep, drop, split, join, fsplit, fjoin, pick, suffices, use0, use1, await, feq_l, of_opd, no_more, and_then, returns, enter, alloc_all, pass_all, free_all, look_at, get, sets, lands_as, agg, tables, fact, fact_i, ◌⊑◌, no, RattleType, plain, Ptr, RawPtr, block_ptr, ptr_val, nothing, only, heard, bounded, triple_of, Stays, stay_dropped, walk_of, proved_at, leaves, fm}
-use base.Logic.{never, fst∗}
+use Rattle.counted_block.proofs.Names.{◌≡◌, List, [], ◌∷◌, ◌++◌, sym, refl, ap, ◌∙◌, subst, a_type, dcons, dnil, Val, inst_fn, SProp, ent, emp, id⊢, ftrue, fsep, flft, sem, ‵, raw, ◌⊛◌, some, later, ◌$◌, ◌∵◌, !, qed, by, move, keep, drop, split, join, fsplit, fjoin, pick, suffices, use0, use1, await, feq_l, of_opd, no_more, and_then, returns, enter, alloc_all, pass_all, free_all, look_at, get, sets, lands_as, agg, tables, fact, fact_i, ◌⊑◌, no, RattleType, plain, Ptr, RawPtr, block_ptr, ptr_val, nothing, only, heard, bounded, triple_of, Stays, stay_dropped, walk_of, proved_at, leaves, fm, never, fst∗, WpFn, Item, layout, null_ptr, in_a_block, calls_at, token, Goes-blank, box_owns, box_out, box_in, ptr_and_marker, BareData, bare_made}
 use mir.Raw.{raw as bare_ty}
-use prog.Wp.{WpFn}
-use types.Kit.{Item}
-use denote.Param.{layout}
-use denote.RawPtr.{null_ptr, in_a_block}
-use denote.Triple.Call.{calls_at}
-use Rattle.std.proofs.alloc.Calls.{token, Goes-blank}
-use Rattle.std.specs.Box.Ownership.{box_owns}
 use Rattle.std.proofs.BoxSteps.Form as box
-use Rattle.std.proofs.BoxSteps.Steps.{box_out, box_in}
 use Rattle.std.specs.contracts.boxed.Box.into_raw as callee
 use Rattle.std.proofs.boxed.Box.into_raw.Met as callee_met
 use Rattle.counted_block.specs.contracts.bare.Bare as bare
-use Rattle.counted_block.proofs.Fields.{ptr_and_marker, BareData, bare_made}
 use Rattle.counted_block.specs.contracts.bare.Bare.of.{ended, clauses}
 use Rattle.counted_block.specs.contracts.bare.Bare.of.Key.{name as #self}
 use Rattle.counted_block.proofs.bare.Bare.of.Statement.{statement}

@@ -1,14 +1,9 @@
 -- `give_up` is one step on the holds of the block, which may have ended.
-use Rattle.counted_block.proofs.Names.{◌≡◌, ℕ, ◌+◌, ◌^◌, eqb, List, [], ◌∷◌, ◌++◌, refl, ap, lit<, w64, a_type, dcons, dnil, Val, vint, vptr, vstruct, vcons, vnil, of_list, inst_fn, SProp, emp, Fml, ftrue, fsep, feq, finv, ‵, raw, ◌⊛◌, mean, at_ret, ◌$◌, ◌∵◌, !, qed, by, move, keep, drop, split, fsplit, fsplit3, fjoin, fpick, fpack, use0, use1, use2, via, feq_i, flt_i, stop, fld, addr, lit, of_opd, no_more, and_then, first, blocks, exec, Calls-last, returns, enter, alloc_all, pass_all, free_all, look_at, get, get_in, through, sets, is, lands_last, env, agg, sub, whole, tables, fact, fact_i, no, RattleType, Valss, owns, types_at, plain, Ptr, block_ptr, ptr_val, nothing, u64, param, bounded, Stays, stay_dropped, walk_of, Goes-dropped, after, proved, leaves, fm, seq_cst, found, finds, subs}
+use Rattle.counted_block.proofs.Names.{◌≡◌, ℕ, ◌+◌, ◌^◌, eqb, List, [], ◌∷◌, ◌++◌, refl, ap, lit<, w64, dcons, dnil, Val, vint, vptr, vstruct, vcons, vnil, of_list, inst_fn, SProp, emp, Fml, ftrue, fsep, feq, finv, ‵, raw, ◌⊛◌, mean, at_ret, ◌$◌, ◌∵◌, !, qed, by, move, keep, drop, split, fsplit, fsplit3, fjoin, fpick, fpack, use0, use1, use2, via, feq_i, flt_i, stop, fld, addr, lit, of_opd, no_more, and_then, first, blocks, exec, Calls-last, returns, enter, alloc_all, pass_all, free_all, look_at, get, get_in, through, sets, is, lands_last, env, agg, sub, whole, tables, fact, fact_i, no, RattleType, Valss, owns, types_at, plain, Ptr, block_ptr, ptr_val, nothing, u64, param, bounded, Stays, stay_dropped, walk_of, Goes-dropped, after, proved, leaves, fm, seq_cst, found, finds, subs, BlockId, place, block, content, ptr_and_marker, pair_typed, in_place, hold_told, RemainsData, remains_made, kept_inv, alive, Types, seven}
 use mathlib.Core.Option as maybe
-use Rattle.counted_block.specs.Blocks.{BlockId, place, block}
-use Rattle.counted_block.specs.Held.{content}
 use Rattle.counted_block.specs.contracts.hold.Hold as hold
 use Rattle.counted_block.specs.contracts.remains.Remains as remains
-use Rattle.counted_block.proofs.Fields.{ptr_and_marker, pair_typed, in_place, hold_told, RemainsData, remains_made}
-use Rattle.counted_block.proofs.Keeping.{kept_inv}
 use Rattle.counted_block.proofs.Holds as holding
-use denote.Triple.Entry.{alive}
 use Rattle.counted_block.specs.contracts.hold.Hold.give_up.{ended, clauses}
 use Rattle.counted_block.specs.contracts.hold.Hold.give_up.Key.{name as #self}
 use Rattle.counted_block.proofs.hold.Hold.give_up.Statement.{statement}
@@ -18,9 +13,9 @@ pub give_up_spec : {M : Type 1} → statement M
 give_up_spec 𝓤 𝓛 𝓜 𝓡 wired S₀ W₀ V₀ K₀ Y₀ T₀ A₀ _ _ _ _ _ _ _ g d h dh dd _ _ _ =
     let H = 𝓛.H in let machine = tables 𝓤 H 𝓜 𝓡 𝓡.env in let S : RattleType = param 0 S₀ in let W : RattleType = param 1 W₀ in let V = param 2 V₀ in let K = param 3 K₀ in let Y = param 4 Y₀ in let R : RattleType = param 5 T₀ in let A = param 6 A₀ in
     let promise = ended S₀ W₀ V₀ K₀ Y₀ T₀ A₀ g d h dh dd in let claims = clauses S₀ W₀ V₀ K₀ Y₀ T₀ A₀ g d h dh dd 𝓛 𝓜.mem 𝓡.returns in
-    let at_types = bounded (a_type ∷ a_type ∷ a_type ∷ a_type ∷ a_type ∷ a_type ∷ a_type ∷ []) (S₀, (W₀, (V₀, (K₀, (Y₀, (T₀, (A₀, tt))))))) (dcons d (dcons dh (dcons dd dnil))) in let routine = inst_fn at_types code.function in
+    let types : Types seven = (S₀, (W₀, (V₀, (K₀, (Y₀, (T₀, (A₀, tt))))))) in let at_types = bounded seven types (dcons d (dcons dh (dcons dd dnil))) in let routine = inst_fn at_types code.function in
     let OwnRow : RattleType = hold.the_row S W V K Y R A g h in let Er : RattleType = remains.the_row S W V K Y R A g h in let self = plain (λ _. OwnRow) in let staying : Stays promise.signature.params promise.kept = (stay_dropped self no, tt) in
-    proved 𝓛 promise staying claims 𝓜 𝓡 (Goes-dropped 𝓛 7 self no (λ κs x f. refl), tt) (#self at_types) routine (code.unfolded 𝓤 H 𝓜 𝓡 wired (S₀, (W₀, (V₀, (K₀, (Y₀, (T₀, (A₀, tt))))))) d dh dd)
+    proved 𝓛 promise staying claims 𝓜 𝓡 (Goes-dropped 𝓛 7 self no (λ κs x f. refl), tt) (#self at_types) routine (code.unfolded 𝓤 H 𝓜 𝓡 wired types d dh dd)
     (λ κs. ((λ w. ptr_and_marker w.at ∷ []), tt)) (λ κs. ((λ w vs so. hold_told S W V K Y R A g h w.at vs so.0), tt)) (λ κs qs bounds a gh are.
     let s : OwnRow.Denot = a.0 in let p : Ptr = s.at in let x : R.Denot = s.value in let k = h.dealloc_token s.heap in let z : BlockId = s.id in
     let pb : ℕ = z.block in let e : ℕ = z.offset + 8 in let P : Fml = content S W R k z x in let holds = g.holds s.key in let J : Fml = block S W V.coded.code holds g.out P z in

@@ -1,10 +1,6 @@
 -- `turn` runs nothing: what the seat carries is the same in another order.
-use Rattle.atomic_table.proofs.Names.{◌≡◌, ℕ, List, [], ◌∷◌, refl, a_type, named, Val, vunit, vptr, inst_fn, emp, Fml, ftrue, fsep, flft, ‵, raw, ◌⊛◌, ◌$◌, ◌∵◌, !, qed, by, move, keep, drop, split, join, fsplit, fsplit3, fjoin, fjoin3, use0, use1, feq_i, of_opd, returns, enter, unit_lit, alloc_all, pass_all, free_all, look_at, sets, tables, RattleType, owns, types_at, plain, nothing, param, layouts, Stays, walk_of, fact, fact_i, Coded, mut_vals, mut_Tells, opens, closes, stay_ref, Goes-ref}
-use Rattle.atomic_table.proofs.Walks.{proved, leaves}
-use Rattle.atomic_table.specs.Table.{turned}
-use Rattle.counted_block.specs.Blocks.{seat_owns}
+use Rattle.counted_block.proofs.Names.{◌≡◌, ℕ, List, [], ◌∷◌, refl, a_type, named, Val, vunit, vptr, inst_fn, emp, Fml, ftrue, fsep, flft, ‵, raw, ◌⊛◌, ◌$◌, ◌∵◌, !, qed, by, move, keep, drop, split, join, fsplit, fsplit3, fjoin, fjoin3, use0, use1, feq_i, of_opd, returns, enter, unit_lit, alloc_all, pass_all, free_all, look_at, sets, tables, RattleType, owns, types_at, plain, nothing, param, layouts, Stays, walk_of, fact, fact_i, Coded, mut_vals, mut_Tells, opens, closes, stay_ref, Goes-ref, proved, leaves, turned, seat_owns, turns}
 use Rattle.counted_block.specs.contracts.seat.Seat as seat
-use Rattle.counted_block.proofs.Shelves.{turns}
 use Rattle.counted_block.specs.contracts.seat.Seat.turn.{ended, clauses}
 use Rattle.counted_block.specs.contracts.seat.Seat.turn.Key.{name as #self}
 use Rattle.counted_block.proofs.seat.Seat.turn.Statement.{statement}

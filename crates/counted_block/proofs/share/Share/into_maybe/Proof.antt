@@ -1,10 +1,7 @@
 -- `into_maybe` is what a step may leave, and is there.
-use Rattle.counted_block.proofs.Names.{◌≡◌, [], ◌∷◌, refl, a_type, dcons, dnil, Val, inst_fn, SProp, emp, ftrue, ‵, raw, ◌⊛◌, ◌$◌, ◌∵◌, !, qed, by, move, keep, drop, split, fsplit, fsplit3, fjoin, fjoin3, fpick, fpack, use0, stop, fld, of_opd, no_more, and_then, returns, enter, alloc_all, pass_all, free_all, look_at, get, get_in, sets, agg, sub, whole, tables, fact, fact_i, no, RattleType, owns, types_at, plain, Ptr, nothing, param, bounded, alive, Stays, stay_dropped, walk_of, Goes-dropped, proved, leaves}
-use Rattle.std.proofs.Common.{true}
-use Rattle.counted_block.specs.Blocks.{BlockId, place}
+use Rattle.counted_block.proofs.Names.{◌≡◌, [], ◌∷◌, refl, dcons, dnil, Val, inst_fn, SProp, emp, ftrue, ‵, raw, ◌⊛◌, ◌$◌, ◌∵◌, !, qed, by, move, keep, drop, split, fsplit, fsplit3, fjoin, fjoin3, fpick, fpack, use0, stop, fld, of_opd, no_more, and_then, returns, enter, alloc_all, pass_all, free_all, look_at, get, get_in, sets, agg, sub, whole, tables, fact, fact_i, no, RattleType, owns, types_at, plain, Ptr, nothing, param, bounded, alive, Stays, stay_dropped, walk_of, Goes-dropped, proved, leaves, true, BlockId, place, ptr_and_marker, pair_typed, ptr_typed, in_place, share_told, MaybeShareData, maybe_share_made, Types, seven}
 use Rattle.counted_block.specs.contracts.share.Share as source
 use Rattle.counted_block.specs.contracts.share.MaybeShare as target
-use Rattle.counted_block.proofs.Fields.{ptr_and_marker, pair_typed, ptr_typed, in_place, share_told, MaybeShareData, maybe_share_made}
 use Rattle.counted_block.specs.contracts.share.Share.into_maybe.{ended, clauses}
 use Rattle.counted_block.specs.contracts.share.Share.into_maybe.Key.{name as #self}
 use Rattle.counted_block.proofs.share.Share.into_maybe.Statement.{statement}
@@ -14,9 +11,9 @@ pub into_maybe_spec : {M : Type 1} → statement M
 into_maybe_spec 𝓤 𝓛 𝓜 𝓡 wired S₀ W₀ V₀ K₀ Y₀ T₀ A₀ _ _ _ _ _ _ _ g d h dh dd _ _ _ =
     let H = 𝓛.H in let machine = tables 𝓤 H 𝓜 𝓡 𝓡.env in let S : RattleType = param 0 S₀ in let W : RattleType = param 1 W₀ in let V = param 2 V₀ in let K = param 3 K₀ in let Y = param 4 Y₀ in let R : RattleType = param 5 T₀ in let A = param 6 A₀ in
     let promise = ended S₀ W₀ V₀ K₀ Y₀ T₀ A₀ g d h dh dd in let claims = clauses S₀ W₀ V₀ K₀ Y₀ T₀ A₀ g d h dh dd 𝓛 𝓜.mem 𝓡.returns in
-    let at_types = bounded (a_type ∷ a_type ∷ a_type ∷ a_type ∷ a_type ∷ a_type ∷ a_type ∷ []) (S₀, (W₀, (V₀, (K₀, (Y₀, (T₀, (A₀, tt))))))) (dcons d (dcons dh (dcons dd dnil))) in let routine = inst_fn at_types code.function in
+    let types : Types seven = (S₀, (W₀, (V₀, (K₀, (Y₀, (T₀, (A₀, tt))))))) in let at_types = bounded seven types (dcons d (dcons dh (dcons dd dnil))) in let routine = inst_fn at_types code.function in
     let OwnRow : RattleType = source.the_row S W V K Y R A g h in let MaybeRow : RattleType = target.the_row S W V K Y R A g h in let self = plain (λ _. OwnRow) in let staying : Stays promise.signature.params promise.kept = (stay_dropped self no, tt) in
-    proved 𝓛 promise staying claims 𝓜 𝓡 (Goes-dropped 𝓛 7 self no (λ κs x f. refl), tt) (#self at_types) routine (code.unfolded 𝓤 H 𝓜 𝓡 wired (S₀, (W₀, (V₀, (K₀, (Y₀, (T₀, (A₀, tt))))))) d dh dd)
+    proved 𝓛 promise staying claims 𝓜 𝓡 (Goes-dropped 𝓛 7 self no (λ κs x f. refl), tt) (#self at_types) routine (code.unfolded 𝓤 H 𝓜 𝓡 wired types d dh dd)
     (λ κs. ((λ w. ptr_and_marker w.at ∷ []), tt)) (λ κs. ((λ w vs so. share_told S W V K Y R A g h w.at vs so.0), tt)) (λ κs qs bounds a gh are.
     let s : OwnRow.Denot = a.0 in let p : Ptr = s.at in let z : BlockId = s.id in
     let start : (walk_of 𝓛 promise staying claims).Ghost = ((κs, qs, bounds, a, (ptr_and_marker p ∷ [], tt)), gh) in let returned : Val → SProp 𝓤 = (walk_of 𝓛 promise staying claims).post start in

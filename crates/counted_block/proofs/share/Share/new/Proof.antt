@@ -1,27 +1,10 @@
 -- `new` lends the slots and the value of a box, and puts its words under the invariant.
-use Rattle.counted_block.proofs.Names.{◌≡◌, ℕ, List, [], ◌∷◌, ◌++◌, sym, refl, ap, a_type, named, dcons, dnil, Val, vptr, vstruct, vcons, vnil, of_list, inst_fn, SProp, emp, Lft, Fml, ftrue, fsep, feq, flft, sem, ‵, raw, ◌⊛◌, given, some, later, await, ◌$◌, ◌∵◌, !, qed, by, move, keep, drop, split, split3, join, fsplit, fjoin, fjoin3, fpack, learn, use0, use1, rewrite, feq_i, stop, fld, of_opd, no_more, and_then, returns, enter, alloc_all, pass_all, free_all, look_at, get, get_in, sets, is, agg, sub, whole, tables, fact, fact_i, yes, no, group, RattleType, Valss, owns, types_at, plain, Ptr, block_ptr, ptr_val, nothing, heard, param, bounded, RefOf, shr_vals, shr_Tells, Stays, stay_dropped, walk_of, Goes-dropped, proved, leaves}
-use Rattle.std.proofs.Common.{Bool, true, false}
-use base.Logic.{fst∗, never}
-use contract.BorrowLft.{◌⊑◌}
+use Rattle.counted_block.proofs.Names.{◌≡◌, ℕ, List, [], ◌∷◌, ◌++◌, sym, refl, ap, named, dcons, dnil, Val, vptr, vstruct, vcons, vnil, of_list, inst_fn, SProp, emp, Lft, Fml, ftrue, fsep, feq, flft, sem, ‵, raw, ◌⊛◌, given, some, later, await, ◌$◌, ◌∵◌, !, qed, by, move, keep, drop, split, split3, join, fsplit, fjoin, fjoin3, fpack, learn, use0, use1, rewrite, feq_i, stop, fld, of_opd, no_more, and_then, returns, enter, alloc_all, pass_all, free_all, look_at, get, get_in, sets, is, agg, sub, whole, tables, fact, fact_i, yes, no, group, RattleType, Valss, owns, types_at, plain, Ptr, block_ptr, ptr_val, nothing, heard, param, bounded, RefOf, shr_vals, shr_Tells, Stays, stay_dropped, walk_of, Goes-dropped, proved, leaves, false, fst∗, never, ◌⊑◌, pick, lone, param_laws, null_ptr, in_a_block, ◌+ₚ◌, Lends-first, Lends-lies, box_owns, opening, First, Second, at_value, BlockId, life, place, parts, parts_if, seat_owns, words_in, value_there, slots_there, rebox, content, looked_at, kept_of, unnamed, begun, unboxes, ptr_and_marker, pair_typed, marker_val, ShareData, share_made, SeatData, seat_made, bare_told, Types, seven}
 use mir.Raw.{raw as bare_ty}
-use types.Kit.{pick}
-use denote.Memory.{lone}
-use denote.Param.Laws.{param_laws}
-use denote.RawPtr.{null_ptr, in_a_block, ◌+ₚ◌}
-use denote.Struct.Lending.{Lends-first, Lends-lies}
-use Rattle.std.specs.Box.Ownership.{box_owns}
-use Rattle.atomic_table.specs.Table.{opening}
-use Rattle.counted_block.specs.declared.place.Place.TheVariants.{First, Second}
-use Rattle.counted_block.specs.Layout.{at_value}
-use Rattle.counted_block.specs.Blocks.{BlockId, life, place, parts, parts_if, seat_owns, words_in}
-use Rattle.counted_block.specs.Held.{value_there, slots_there, rebox, content, looked_at, kept_of}
 use Rattle.counted_block.specs.contracts.bare.Bare as bare
 use Rattle.counted_block.specs.contracts.inner.Inner as inner
 use Rattle.counted_block.specs.contracts.share.Share as share
 use Rattle.counted_block.specs.contracts.seat.Seat as seat
-use Rattle.counted_block.proofs.Beginning.{unnamed, begun}
-use Rattle.counted_block.proofs.Boxing.{unboxes}
-use Rattle.counted_block.proofs.Fields.{ptr_and_marker, pair_typed, marker_val, ShareData, share_made, SeatData, seat_made, bare_told}
 use Rattle.counted_block.specs.contracts.share.Share.new.{ended, clauses}
 use Rattle.counted_block.specs.contracts.share.Share.new.Key.{name as #self}
 use Rattle.counted_block.proofs.share.Share.new.Statement.{statement}
@@ -31,10 +14,10 @@ pub new_spec : {M : Type 1} → statement M
 new_spec 𝓤 𝓛 𝓜 𝓡 wired S₀ W₀ V₀ K₀ Y₀ T₀ A₀ LS LW _ _ _ LT _ g d h dh dd _ _ _ =
     let H = 𝓛.H in let machine = tables 𝓤 H 𝓜 𝓡 𝓡.env in let S : RattleType = param 0 S₀ in let W : RattleType = param 1 W₀ in let V = param 2 V₀ in let K = param 3 K₀ in let Y = param 4 Y₀ in let R : RattleType = param 5 T₀ in let A = param 6 A₀ in
     let promise = ended S₀ W₀ V₀ K₀ Y₀ T₀ A₀ g d h dh dd in let claims = clauses S₀ W₀ V₀ K₀ Y₀ T₀ A₀ g d h dh dd 𝓛 𝓜.mem 𝓡.returns in
-    let at_types = bounded (a_type ∷ a_type ∷ a_type ∷ a_type ∷ a_type ∷ a_type ∷ a_type ∷ []) (S₀, (W₀, (V₀, (K₀, (Y₀, (T₀, (A₀, tt))))))) (dcons d (dcons dh (dcons dd dnil))) in let routine = inst_fn at_types code.function in
+    let types : Types seven = (S₀, (W₀, (V₀, (K₀, (Y₀, (T₀, (A₀, tt))))))) in let at_types = bounded seven types (dcons d (dcons dh (dcons dd dnil))) in let routine = inst_fn at_types code.function in
     let OwnRow : RattleType = share.the_row S W V K Y R A g h in let Ir : RattleType = inner.the_row S W R in let Br : RattleType = bare.the_row Ir A h in let SeatRow : RattleType = seat.the_row S W V in let box = plain (λ _. Br) in let about = RefOf (0 ∷ []) tt (plain (λ _. K)) (λ _. tt) in
     let LR = param_laws 5 T₀ LT in let staying : Stays promise.signature.params promise.kept = (stay_dropped box no, (stay_dropped about yes, tt)) in
-    proved 𝓛 promise staying claims 𝓜 𝓡 (Goes-dropped 𝓛 8 box no (λ κs x f. refl), (Goes-dropped 𝓛 8 about yes (λ κs x f. refl), tt)) (#self at_types) routine (code.unfolded 𝓤 H 𝓜 𝓡 wired (S₀, (W₀, (V₀, (K₀, (Y₀, (T₀, (A₀, tt))))))) d dh dd)
+    proved 𝓛 promise staying claims 𝓜 𝓡 (Goes-dropped 𝓛 8 box no (λ κs x f. refl), (Goes-dropped 𝓛 8 about yes (λ κs x f. refl), tt)) (#self at_types) routine (code.unfolded 𝓤 H 𝓜 𝓡 wired types d dh dd)
     (λ κs. ((λ w. ptr_and_marker w.at ∷ []), (shr_vals, tt))) (λ κs. ((λ w vs so. bare_told Ir A h w.at vs so.0), (shr_Tells (named 0) κs.0 K, tt))) (λ κs qs bounds a gh are.
     let s : Br.Denot = a.0 in let p₀ : Ptr = s.at in let i : Ir.Denot = s.value in let n : ℕ = i.word in let x : R.Denot = i.value in let m : S.Denot × W.Denot = (i.first, i.second) in let k = h.dealloc_token s.heap in let about_at : Val = vptr a.1.0.ref_ptr.0 a.1.0.ref_ptr.1 in
     let key : K.Denot = a.1.0.now in let holds = g.holds key in let v : V.Denot = g.first key in let κ : Lft = κs.1.1.1.1.1.1.0 in let inT : Type 0 = κ ⊑ T₀.lives in
