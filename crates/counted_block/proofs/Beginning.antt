@@ -31,6 +31,7 @@ use Rattle.counted_block.specs.Blocks.{BlockId, life, place, parts, parts_if, gr
 use Rattle.counted_block.specs.Held.{slots_there, content, looked_at, kept_of}
 use Rattle.counted_block.proofs.Grips as grips
 use Rattle.counted_block.proofs.Keeping.{keeps_new}
+use Rattle.counted_block.proofs.Signs.{Signs, signs}
 
 -- one share or two
 abbrev pub first_out : Bool → ℕ
@@ -48,17 +49,10 @@ module _ {M : Type 1} {𝓤 : Ura M} (𝓛 : Logic 𝓤) (R Q T : RattleType) {V
   abbrev Pr : Type 2
   Pr = SProp 𝓤
 
-  abbrev ⟦◌⟧ : Fml → Pr
-  ⟦ P ⟧ = sem 𝓛 P
+  abbrev 𝓝 : Signs 𝓛
+  𝓝 = signs 𝓛
 
-  abbrev ◌⊢◌ : Pr → Pr → Type 1
-  P ⊢ Q = ent 𝓤 P Q
-
-  abbrev ◌∗◌ : Pr → Pr → Pr
-  P ∗ Q = sep 𝓤 P Q
-
-  infix 26 ◌⊢◌
-  infixr 35 ◌∗◌
+  open 𝓝 use {⟦◌⟧, ◌⊢◌, ◌∗◌}
   abbrev S : Type 0
   S = Place R.Denot Q.Denot
 

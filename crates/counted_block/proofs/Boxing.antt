@@ -24,22 +24,16 @@ use Rattle.atomic_table.specs.Seated.{word}
 use Rattle.counted_block.specs.Blocks.{BlockId, place, words_in}
 use Rattle.counted_block.specs.Held.{value_there, slots_there, boxed, content}
 use Rattle.counted_block.specs.contracts.inner.Inner as inner
+use Rattle.counted_block.proofs.Signs.{Signs, signs}
 
 module _ (i l j : ℕ) (S W T : RattleType) (LS : Laws S) (LW : Laws W) (LT : Laws T) {M : Type 1} {𝓤 : Ura M} (𝓛 : Logic 𝓤) (z : BlockId) (x : T.Denot) where
   abbrev Pr : Type 2
   Pr = SProp 𝓤
 
-  abbrev ⟦◌⟧ : Fml → Pr
-  ⟦ P ⟧ = sem 𝓛 P
+  abbrev 𝓝 : Signs 𝓛
+  𝓝 = signs 𝓛
 
-  abbrev ◌⊢◌ : Pr → Pr → Type 1
-  P ⊢ Q = ent 𝓤 P Q
-
-  abbrev ◌∗◌ : Pr → Pr → Pr
-  P ∗ Q = sep 𝓤 P Q
-
-  infix 26 ◌⊢◌
-  infixr 35 ◌∗◌
+  open 𝓝 use {⟦◌⟧, ◌⊢◌, ◌∗◌}
   abbrev R : RattleType
   R = param i S
 

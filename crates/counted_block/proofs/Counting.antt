@@ -17,6 +17,7 @@ use Rattle.atomic_table.specs.Seated.{fact}
 use Rattle.counted_block.specs.declared.place.Place.{Place}
 use Rattle.counted_block.specs.Blocks.{BlockId, life, stay, grip, grips_left, parts, parts_if, hold_parts, counted}
 use Rattle.counted_block.proofs.Grips as grips
+use Rattle.counted_block.proofs.Signs.{Signs, signs}
 
 module _ {M : Type 1} {𝓤 : Ura M} (𝓛 : Logic 𝓤) (a : ℕ) where
   -- a part of a token that has ended is no part
@@ -30,17 +31,10 @@ module _ {M : Type 1} {𝓤 : Ura M} (𝓛 : Logic 𝓤) (a : ℕ) where
   rest_bound N n = qed 𝓛 (‵ (rest N a n) ∷ []) ∵ fpick ! (λ r. fpick ! (λ c. check ! (c.0, c.1) $ fpack ! (counts.Fine N n r) (λ _. flft (a ∷ []) r) c $ fpack ! Share (λ s. fex (counts.Fine N n s) (λ _. flft (a ∷ []) s)) r $ done !))
 
 module _ {M : Type 1} {𝓤 : Ura M} (𝓛 : Logic 𝓤) (R Q : RattleType) {V : Type 0} (cv : Coded V) (holds : State (Place R.Denot Q.Denot) V → Type 0) (out : ℕ → ℕ) (P : Fml) (z : BlockId) where
-  abbrev ⟦◌⟧ : Fml → SProp 𝓤
-  ⟦ X ⟧ = sem 𝓛 X
+  abbrev 𝓝 : Signs 𝓛
+  𝓝 = signs 𝓛
 
-  abbrev ◌⊢◌ : SProp 𝓤 → SProp 𝓤 → Type 1
-  X ⊢ Y = ent 𝓤 X Y
-
-  abbrev ◌∗◌ : SProp 𝓤 → SProp 𝓤 → SProp 𝓤
-  X ∗ Y = sep 𝓤 X Y
-
-  infix 26 ◌⊢◌
-  infixr 35 ◌∗◌
+  open 𝓝 use {⟦◌⟧, ◌⊢◌, ◌∗◌}
   abbrev Counts : Bool → ℕ → ℕ → Fml
   Counts = counted R Q cv.code holds out P z
 

@@ -25,6 +25,7 @@ use Rattle.counted_block.specs.Counts.{Last}
 use Rattle.counted_block.proofs.Opening.{Ends, Ended}
 use Rattle.counted_block.proofs.Counting as counting
 use Rattle.counted_block.proofs.Holds.{J, around, over, goes_on, opened, is_eq, not_eq}
+use Rattle.counted_block.proofs.Signs.{Signs, signs}
 
 module _ {M : Type 1} {𝓤 : Ura M} (𝓛 : Logic 𝓤) {V : Type 0} (cv : Coded V) (γ : ℕ) where
   -- a seat's view is the roster's
@@ -41,21 +42,10 @@ module _ {M : Type 1} {𝓤 : Ura M} (𝓛 : Logic 𝓤) (R Q : RattleType) {V :
   abbrev Pr : Type 2
   Pr = SProp 𝓤
 
-  abbrev ⟦◌⟧ : Fml → Pr
-  ⟦ X ⟧ = sem 𝓛 X
+  abbrev 𝓝 : Signs 𝓛
+  𝓝 = signs 𝓛
 
-  abbrev ◌⊢◌ : Pr → Pr → Type 1
-  X ⊢ Y = ent 𝓤 X Y
-
-  abbrev ◌∗◌ : Pr → Pr → Pr
-  X ∗ Y = sep 𝓤 X Y
-
-  abbrev ◌-∗◌ : Pr → Pr → Pr
-  X -∗ Y = wand 𝓤 X Y
-
-  infix 26 ◌⊢◌
-  infixr 35 ◌∗◌
-  infixr 30 ◌-∗◌
+  open 𝓝 use {⟦◌⟧, ◌⊢◌, ◌∗◌, ◌-∗◌}
   abbrev b : ℕ
   b = z.block
 

@@ -24,6 +24,7 @@ use Rattle.counted_block.specs.Blocks.{BlockId, life, stay, word_of, Fits, shelf
 use Rattle.counted_block.specs.Counts.{Notes}
 use Rattle.counted_block.proofs.Moving.{body, Next, opened}
 use Rattle.counted_block.proofs.Counting as counting
+use Rattle.counted_block.proofs.Signs.{Signs, signs}
 
 set_own : (ns : List ℕ) → ns ≡ set ns 0 (get_or ns 0 0)
 set_own [] = refl
@@ -35,17 +36,10 @@ module _ {M : Type 1} {𝓤 : Ura M} (𝓛 : Logic 𝓤) (R Q : RattleType) {V :
   abbrev Pr : Type 2
   Pr = SProp 𝓤
 
-  abbrev ⟦◌⟧ : Fml → Pr
-  ⟦ X ⟧ = sem 𝓛 X
+  abbrev 𝓝 : Signs 𝓛
+  𝓝 = signs 𝓛
 
-  abbrev ◌⊢◌ : Pr → Pr → Type 1
-  X ⊢ Y = ent 𝓤 X Y
-
-  abbrev ◌∗◌ : Pr → Pr → Pr
-  X ∗ Y = sep 𝓤 X Y
-
-  infix 26 ◌⊢◌
-  infixr 35 ◌∗◌
+  open 𝓝 use {⟦◌⟧, ◌⊢◌, ◌∗◌}
   abbrev S : Type 0
   S = Place R.Denot Q.Denot
 

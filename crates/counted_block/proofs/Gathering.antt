@@ -20,6 +20,7 @@ use Rattle.counted_block.specs.declared.place.Place.TheVariants.{First, Second}
 use Rattle.counted_block.specs.Layout.{at_first, at_second}
 use Rattle.counted_block.specs.Blocks.{BlockId, life, word_of, Known, first_body, second_body, tracked, home, shelf, owed, words_in, remaining}
 use Rattle.counted_block.specs.Held.{slots_there, content}
+use Rattle.counted_block.proofs.Signs.{Signs, signs}
 
 only_word : (ns : List ℕ) → length ns ≡ 1 → ns ≡ get_or ns 0 0 ∷ []
 only_word [] l = absurd (omega arith)
@@ -45,17 +46,10 @@ module _ {M : Type 1} {𝓤 : Ura M} (𝓛 : Logic 𝓤) (R Q T : RattleType) (t
   abbrev Pr : Type 2
   Pr = SProp 𝓤
 
-  abbrev ⟦◌⟧ : Fml → Pr
-  ⟦ P ⟧ = sem 𝓛 P
+  abbrev 𝓝 : Signs 𝓛
+  𝓝 = signs 𝓛
 
-  abbrev ◌⊢◌ : Pr → Pr → Type 1
-  P ⊢ Q = ent 𝓤 P Q
-
-  abbrev ◌∗◌ : Pr → Pr → Pr
-  P ∗ Q = sep 𝓤 P Q
-
-  infix 26 ◌⊢◌
-  infixr 35 ◌∗◌
+  open 𝓝 use {⟦◌⟧, ◌⊢◌, ◌∗◌}
   abbrev S : Type 0
   S = Place R.Denot Q.Denot
 

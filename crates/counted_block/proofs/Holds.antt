@@ -26,6 +26,7 @@ use Rattle.counted_block.specs.declared.place.Place.{Place}
 use Rattle.counted_block.specs.Blocks.{BlockId, life, stay, grips_left, hold_parts, hold_parts_if, word_of, Fits, Known, shelf, views_in, counted, lent, standing, ghostly, stands, block, remaining, remains, remains_if}
 use Rattle.counted_block.proofs.Opening.{Lies, Ends, Ended, entered}
 use Rattle.counted_block.proofs.Counting as counting
+use Rattle.counted_block.proofs.Signs.{Signs, signs}
 
 -- one more, unless it is full
 full_by : (n : ℕ) (d : Dec (2 ^ 63 ≤ n + 1)) → 2 ^ 63 ≤ n + 1 → dite d (λ _. n) (λ _. n + 1) ≡ n
@@ -54,21 +55,10 @@ module _ {M : Type 1} {𝓤 : Ura M} (𝓛 : Logic 𝓤) (R Q : RattleType) {V :
   abbrev Pr : Type 2
   Pr = SProp 𝓤
 
-  abbrev ⟦◌⟧ : Fml → Pr
-  ⟦ X ⟧ = sem 𝓛 X
+  abbrev 𝓝 : Signs 𝓛
+  𝓝 = signs 𝓛
 
-  abbrev ◌⊢◌ : Pr → Pr → Type 1
-  X ⊢ Y = ent 𝓤 X Y
-
-  abbrev ◌∗◌ : Pr → Pr → Pr
-  X ∗ Y = sep 𝓤 X Y
-
-  abbrev ◌-∗◌ : Pr → Pr → Pr
-  X -∗ Y = wand 𝓤 X Y
-
-  infix 26 ◌⊢◌
-  infixr 35 ◌∗◌
-  infixr 30 ◌-∗◌
+  open 𝓝 use {⟦◌⟧, ◌⊢◌, ◌∗◌, ◌-∗◌}
   abbrev S : Type 0
   S = Place R.Denot Q.Denot
 

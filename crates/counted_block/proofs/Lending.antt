@@ -21,6 +21,7 @@ use Rattle.atomic_table.specs.Table.{State}
 use Rattle.counted_block.specs.declared.place.Place.{Place}
 use Rattle.counted_block.specs.Blocks.{BlockId, life, stay, grip, kept, share_owns, share_shares, hold_owns, hold_shares}
 use Rattle.counted_block.proofs.Keeping as keeping
+use Rattle.counted_block.proofs.Signs.{Signs, signs}
 
 module _ {M : Type 1} {𝓤 : Ura M} (𝓛 : Logic 𝓤) (F : Fml) (G : Lft → Fml) (l : Lft)
     (by_token : (κ : Lft) (q : Share) → ent 𝓤 (sep 𝓤 (𝓛.A.bor κ F) (𝓛.A.lft κ q)) (𝓛.H.⇛ (sep 𝓤 (sem 𝓛 (G κ)) (𝓛.A.lft κ q)))) where
@@ -61,17 +62,10 @@ module _ (R Q : RattleType) {V : Type 0} (c : V → Gv) (holds : State (Place R.
   module _ {M : Type 1} {𝓤 : Ura M} (𝓛 : Logic 𝓤) where
     open 𝓛 use {H, A}
 
-    abbrev ⟦◌⟧ : Fml → SProp 𝓤
-    ⟦ X ⟧ = sem 𝓛 X
+    abbrev 𝓝 : Signs 𝓛
+    𝓝 = signs 𝓛
 
-    abbrev ◌⊢◌ : SProp 𝓤 → SProp 𝓤 → Type 1
-    X ⊢ Y = ent 𝓤 X Y
-
-    abbrev ◌∗◌ : SProp 𝓤 → SProp 𝓤 → SProp 𝓤
-    X ∗ Y = sep 𝓤 X Y
-
-    infix 26 ◌⊢◌
-    infixr 35 ◌∗◌
+    open 𝓝 use {⟦◌⟧, ◌⊢◌, ◌∗◌}
     share_back : (κ : Lft) (e d : Share) → Counts 64 e 1 → Counts 62 d 1 → ⟦ K ⟧ ∗ ⟦ t (life z) ⟧ ⊢ ⟦ fwand (fsep (fdead κ) (fseps (flft (life z) e ∷ flft (stay z) d ∷ []))) (fupd owns) ⟧
     unfolding fseps
     share_back κ e d ce cd = qed 𝓛 (‵ K ∷ ‵ (t (life z)) ∷ []) ∵ assume ! (‵ (fsep (fdead κ) (fsep (flft (life z) e) (fsep (flft (stay z) d) ftrue)))) $ suffices ! ⟦ owns ⟧ (upd_i 𝓤 ⟦ owns ⟧) $

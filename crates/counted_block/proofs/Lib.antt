@@ -14,5 +14,6 @@ pub mod Gathering
 pub mod Boxing
 pub mod Calling
 pub mod Tokens
+pub mod Signs
 pub mod Names
 pub mod Fields

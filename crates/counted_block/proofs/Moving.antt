@@ -26,6 +26,7 @@ use Rattle.counted_block.specs.Counts.{Same, More, Less}
 use Rattle.counted_block.proofs.Opening.{Lies, Ends, entered}
 use Rattle.counted_block.proofs.Shelves.{acts, same_size}
 use Rattle.counted_block.proofs.Counting as counting
+use Rattle.counted_block.proofs.Signs.{Signs, signs}
 
 set_first : (ns : List ℕ) (n : ℕ) → length ns ≡ 1 → n ≡ get_or (set ns 0 n) 0 0
 set_first [] n l = absurd (omega arith)
@@ -37,17 +38,10 @@ module _ {M : Type 1} {𝓤 : Ura M} (𝓛 : Logic 𝓤) (R Q : RattleType) {V :
   abbrev Pr : Type 2
   Pr = SProp 𝓤
 
-  abbrev ⟦◌⟧ : Fml → Pr
-  ⟦ X ⟧ = sem 𝓛 X
+  abbrev 𝓝 : Signs 𝓛
+  𝓝 = signs 𝓛
 
-  abbrev ◌⊢◌ : Pr → Pr → Type 1
-  X ⊢ Y = ent 𝓤 X Y
-
-  abbrev ◌∗◌ : Pr → Pr → Pr
-  X ∗ Y = sep 𝓤 X Y
-
-  infix 26 ◌⊢◌
-  infixr 35 ◌∗◌
+  open 𝓝 use {⟦◌⟧, ◌⊢◌, ◌∗◌}
   abbrev S : Type 0
   S = Place R.Denot Q.Denot
 

@@ -9,6 +9,7 @@ use types.Logic.{Logic, sem}
 use types.Kit.{‵, raw, ◌⊛◌, some, ◌$◌, ◌∵◌, !, qed, by, split, pick, show, check, frame, each, assume, suffices, settle, use1, use2}
 use denote.RawPtr.{block_ptr}
 use Rattle.std.specs.Sync.RawAtomic.{Shift, rests, ends, enters, leaves, word, if_none, along, back, found, asks, always}
+use Rattle.counted_block.proofs.Signs.{Signs, signs}
 
 module _ {M : Type 1} {𝓤 : Ura M} (𝓛 : Logic 𝓤) (I : Fml) (b o : ℕ) (f : ℕ → ℕ) (after : ℕ → Fml) where
   open 𝓛 use {A}
@@ -16,17 +17,10 @@ module _ {M : Type 1} {𝓤 : Ura M} (𝓛 : Logic 𝓤) (I : Fml) (b o : ℕ) (
   abbrev Pr : Type 2
   Pr = SProp 𝓤
 
-  abbrev ⟦◌⟧ : Fml → Pr
-  ⟦ P ⟧ = sem 𝓛 P
+  abbrev 𝓝 : Signs 𝓛
+  𝓝 = signs 𝓛
 
-  abbrev ◌∗◌ : Pr → Pr → Pr
-  P ∗ Q = sep 𝓤 P Q
-
-  abbrev ◌-∗◌ : Pr → Pr → Pr
-  P -∗ Q = wand 𝓤 P Q
-
-  infixr 35 ◌∗◌
-  infixr 30 ◌-∗◌
+  open 𝓝 use {⟦◌⟧, ◌∗◌, ◌-∗◌}
   -- what is there after the step, once these lifetimes have ended
   abbrev pub Ends : List ℕ → ℕ → Pr
   Ends [] n = upd 𝓤 (⟦ I ⟧ ∗ ⟦ after n ⟧)

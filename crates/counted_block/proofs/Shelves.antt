@@ -13,6 +13,7 @@ use denote.Steps.{nothing}
 use Rattle.atomic_table.specs.Table.{Act, keeps, takes, gives, chain, homes_after, carried_after, Valid, turned}
 use Rattle.counted_block.specs.declared.place.Place.{Place}
 use Rattle.counted_block.specs.Blocks.{BlockId, tracked, home, shelf, carried, seat_owns}
+use Rattle.counted_block.proofs.Signs.{Signs, signs}
 
 pub same_size : {S : Type 0} (hs : List (Option S)) (cs : List (ℕ × S)) (a : Act S) → length (homes_after hs cs a) ≡ length hs
 same_size hs cs keeps = refl
@@ -25,17 +26,10 @@ module _ {M : Type 1} {𝓤 : Ura M} (𝓛 : Logic 𝓤) (R Q : RattleType) (z :
   abbrev X : Type 0
   X = Place R.Denot Q.Denot
 
-  abbrev ⟦◌⟧ : Fml → SProp 𝓤
-  ⟦ P ⟧ = sem 𝓛 P
+  abbrev 𝓝 : Signs 𝓛
+  𝓝 = signs 𝓛
 
-  abbrev ◌⊢◌ : SProp 𝓤 → SProp 𝓤 → Type 1
-  P ⊢ Q = ent 𝓤 P Q
-
-  abbrev ◌∗◌ : SProp 𝓤 → SProp 𝓤 → SProp 𝓤
-  P ∗ Q = sep 𝓤 P Q
-
-  infix 26 ◌⊢◌
-  infixr 35 ◌∗◌
+  open 𝓝 use {⟦◌⟧, ◌⊢◌, ◌∗◌}
   abbrev Left : ℕ → List (Option X) → ℕ → ℕ → X → SProp 𝓤
   Left k hs i j y = guard 𝓤 (i < length hs) (⟦ tracked R Q z j y ⟧ ∗ ⟦ shelf R Q z k (set hs i none) ⟧)
 
