@@ -3,9 +3,9 @@ use Rattle.std.proofs.Common.{ℕ, ◌+◌, List, [], ◌∷◌, w64}
 use seplogic.Ra.Ura.{Ura}
 use mir.Syntax.{Ty, ty_int}
 use base.Fraction.{full_share}
-use base.Logic.{SProp, ent, sep, wand, all, all_e, all_i, via, apply∗, mono_r}
+use base.Logic.{SProp, wand, all, all_e, all_i, via, apply∗, mono_r}
 use base.Fml.{Fml, fsep}
-use types.Logic.{Logic, sem}
+use types.Logic.{Logic}
 use types.Kit.{‵, raw, ◌⊛◌, ◌$◌, ◌∵◌, !, qed, move, drop, use1, use2, split, frame, fsplit, fsplit3, fjoin, fjoin3, each, assume, done}
 use denote.RattleType.{RattleType, Denots}
 use denote.RawPtr.{Ptr}

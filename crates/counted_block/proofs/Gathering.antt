@@ -6,9 +6,9 @@ use seplogic.Ra.Ura.{Ura}
 use mir.Syntax.{Ty}
 use base.Fraction.{full_share}
 use base.Stored.{Coded}
-use base.Logic.{SProp, ent, sep, ex, guard, never_e}
+use base.Logic.{SProp, ex, guard, never_e}
 use base.Fml.{Fml, ftrue, ffalse, fdead}
-use types.Logic.{Logic, sem}
+use types.Logic.{Logic}
 use types.Kit.{‵, ◌⊛◌, some, given, later, ◌$◌, ◌∵◌, !, qed, by, move, keep, drop, split, fsplit, fsplit3, fjoin, fpick, pick, learn, show, check, use1, use2, use3, await, updating, now, done}
 use types.Tokens.{lent_back, name_agree}
 use denote.RattleType.{RattleType}

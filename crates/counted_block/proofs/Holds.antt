@@ -9,10 +9,10 @@ use mir.Syntax.{ty_int}
 use mir.Val.{vint, has_ty, WT}
 use base.Fraction.{full_share}
 use base.Stored.{Coded}
-use base.Logic.{SProp, ent, sep, wand, ex, upd, upd_i}
+use base.Logic.{SProp, ex, upd, upd_i}
 use base.Fml.{Share, Fml, ftrue, fsep, flft, fdead}
 use prog.Atomic.{bump}
-use types.Logic.{Logic, sem}
+use types.Logic.{Logic}
 use types.Kit.{‵, raw, ◌⊛◌, given, ◌$◌, ◌∵◌, !, qed, by, move, keep, drop, split, split3, fsplit, fsplit3, fjoin, fjoin3, fpick, fpack, learn, show, check, frame, assume, suffices, done, use1, use2, rewrite}
 use types.RcWeak.{part, rest}
 use types.RcWeak as counts

@@ -3,7 +3,7 @@ use Rattle.std.proofs.Common.{ℕ, [], ◌∷◌}
 use seplogic.Ra.Ura.{Ura}
 use base.FractionLaws.{Counts}
 use base.Stored.{Gv}
-use base.Logic.{SProp, ent, sep, wand, upd_i, id⊢, apply∗}
+use base.Logic.{ent, sep, wand, upd_i, id⊢, apply∗}
 use base.Fml.{Lft, Share, Fml, ftrue, fsep, fseps, fwand, fupd, fdead, fbor, flft}
 use contract.BorrowLft.{meet_⊑_left}
 use ghost.Rules.{span, thinned}

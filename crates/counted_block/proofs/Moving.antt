@@ -9,9 +9,9 @@ use mir.Val.{vint, has_ty, WT}
 use base.Fraction.{full_share}
 use base.Share.{three_quarters}
 use base.Stored.{Coded}
-use base.Logic.{SProp, ent, sep, ex, all, guard, upd, all_e, upd_i}
+use base.Logic.{SProp, ex, all, guard, upd, all_e, upd_i}
 use base.Fml.{Share, Fml, ftrue, fsep, fex, flft, fdead}
-use types.Logic.{Logic, sem}
+use types.Logic.{Logic}
 use types.Kit.{‵, raw, ◌⊛◌, some, given, ◌$◌, ◌∵◌, !, qed, by, move, keep, drop, split, fsplit, fsplit3, fjoin, fjoin3, fpick, fpack, pick, learn, show, check, frame, assume, suffices, settle, done, use1, use2, rewrite}
 use denote.RattleType.{RattleType}
 use denote.RawPtr.{block_ptr}

@@ -3,9 +3,9 @@ use Rattle.std.proofs.Common.{ℕ, List, [], ◌∷◌}
 use mathlib.Core.List.{Mem, not-mem-nil}
 use seplogic.Ra.Ura.{Ura}
 use base.Fraction.{full_share}
-use base.Logic.{SProp, ent, sep, wand, ex, guard, upd, apply∗, ex_i, ex_e, upd_i, upd_mono, via, mono_r}
+use base.Logic.{SProp, ent, ex, guard, upd, apply∗, ex_i, ex_e, upd_i, upd_mono, via, mono_r}
 use base.Fml.{Fml, fdead, finv, fnamed}
-use types.Logic.{Logic, sem}
+use types.Logic.{Logic}
 use types.Kit.{‵, raw, ◌⊛◌, some, ◌$◌, ◌∵◌, !, qed, by, split, pick, show, check, frame, each, assume, suffices, settle, use1, use2}
 use denote.RawPtr.{block_ptr}
 use Rattle.std.specs.Sync.RawAtomic.{Shift, rests, ends, enters, leaves, word, if_none, along, back, found, asks, always}

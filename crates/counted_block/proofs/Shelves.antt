@@ -4,7 +4,7 @@ use mathlib.Core.Option.{Option, none, some, some-injective, some-ne-none}
 use lib.ListN.{get_elem?}
 use seplogic.Ra.Ura.{Ura}
 use base.Stored.{Gv}
-use base.Logic.{SProp, ent, sep, guard, all, id⊢, snd∗}
+use base.Logic.{SProp, guard, all, id⊢, snd∗}
 use base.Fml.{Fml, ftrue, fsep, fex}
 use types.Logic.{Logic, sem}
 use types.Kit.{‵, ◌⊛◌, given, ◌$◌, ◌∵◌, !, qed, by, move, keep, drop, split, fsplit, fjoin, learn, check, frame, each, assume, use1, use2, rewrite, done}
