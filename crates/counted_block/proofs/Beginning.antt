@@ -1,5 +1,5 @@
 -- A block begins: both counts, the loans, the invariant, the first shares and the first seat. Assumes `Logic`.
-use Rattle.std.proofs.Common.{◌≡◌, ℕ, ◌+◌, ◌<◌, Bool, true, false, [], ◌∷◌, sym, refl, arith, lit<}
+use Rattle.std.proofs.Common.{eqb, ◌≡◌, ℕ, ◌+◌, ◌<◌, Bool, true, false, [], ◌∷◌, sym, refl, arith, lit<}
 use seplogic.Ra.Ura.{Ura}
 use mir.Syntax.{Ty}
 use base.Fraction.{full_share}
@@ -32,10 +32,15 @@ use Rattle.counted_block.specs.Held.{slots_there, content, looked_at, kept_of}
 use Rattle.counted_block.proofs.Grips as grips
 use Rattle.counted_block.proofs.Keeping.{keeps_new}
 use Rattle.counted_block.proofs.Signs.{Signs, signs}
+use Rattle.counted_block.proofs.Holds.{is_eq, not_eq}
 
 -- one share or two
 abbrev pub first_out : Bool → ℕ
 first_out y = either y 2 1
+
+pub first_counts : (m : ℕ) (y : Bool) → eqb m 2 ≡ y → 0 < m → m < 3 → m ≡ first_out y
+first_counts m true e lo hi = is_eq m 2 e
+first_counts m false e lo hi = let ne = not_eq m 2 e in omega (arith, ne)
 
 module _ {M : Type 1} {𝓤 : Ura M} (𝓛 : Logic 𝓤) (z : BlockId) where
   first_parts : (y : Bool) → ent 𝓤 (sep 𝓤 (sem 𝓛 (rest 64 z.age 1)) (sem 𝓛 (rest 62 z.tally 1))) (sep 𝓤 (sem 𝓛 (rest 64 z.age (first_out y))) (sep 𝓤 (sem 𝓛 (rest 62 z.tally (first_out y))) (sem 𝓛 (parts_if y z))))

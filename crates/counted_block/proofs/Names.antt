@@ -62,7 +62,7 @@ pub use mathlib.Core.Bool.{not}
 pub use Rattle.counted_block.proofs.Calling.{bumps, left_behind}
 pub use denote.SharingLaws.{contraction}
 pub use Rattle.std.specs.Box.Ownership.{box_owns}
-pub use Rattle.counted_block.proofs.Beginning.{unnamed, begun}
+pub use Rattle.counted_block.proofs.Beginning.{first_counts, unnamed, begun}
 pub use Rattle.counted_block.proofs.Boxing.{unboxes, reboxes}
 pub use Rattle.counted_block.proofs.Lending.{share_sees, hold_sees}
 pub use Rattle.std.specs.Prelude.{bit_or, bit_and}
