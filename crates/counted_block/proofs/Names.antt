@@ -1,28 +1,27 @@
 -- The names that the walks cite.
-pub use Rattle.std.proofs.Common.{◌≡◌, ◌≢◌, ◌⊎◌, inl, inr, ℕ, ◌+◌, ◌-◌, ◌%◌, ◌^◌, ◌<◌, ◌≤◌, eqb, List, [], ◌∷◌, ◌++◌, sym, refl, ap, ◌∙◌, subst, arith, lit<, w64, Bool, true, false}
-pub use mir.Syntax.{a_type, named, dcons, dnil, Dict, Fn, ty_int}
+pub use Rattle.std.proofs.Common.{◌≡◌, ℕ, ◌+◌, ◌-◌, ◌%◌, ◌^◌, ◌<◌, eqb, List, [], ◌∷◌, ◌++◌, sym, refl, ap, ◌∙◌, subst, lit<, w64, Bool, true, false}
+pub use mir.Syntax.{a_type, named, dcons, dnil}
 pub use prog.Atomic.{either}
 pub use mir.Val.{Val, vunit, vint, vptr, vstruct, vcons, vnil, of_list, has_ty, WT}
 pub use mir.MapTy.{inst_fn}
 pub use base.Fraction.{full_share}
 pub use base.Stored.{Coded}
-pub use base.Logic.{SProp, ent, sep, emp, ex, all, all_e, via, id⊢, apply∗, guard_i, wand, fst∗, never}
-pub use base.Fml.{Lft, Share, Fml, ftrue, fsep, fex, fall, fwand, feq, flft, fdead, flent, fhide, finv, fbor, fobs}
-pub use types.Logic.{sem, Logic}
-pub use types.Kit.{‵, raw, ◌⊛◌, some, given, later, mean, at_ret, ◌$◌, ◌∵◌, !, qed, by, move, keep, drop, split, split3, join, group, fsplit, fsplit3, fjoin, fjoin3, fpick, fpack, pick, learn, use0, use1, use2, use3, await, rewrite, regoal, feq_i, feq_l, flt_i, flt_l, suffices, frame, each, assume, done, Item}
-pub use types.Run.{stop, fld, hop, load, addr, lit, of_opd, bin, no_more, and_then, first, blocks, branches, skips, exec, look, store, Calls-last, returns, enter, returns_within, unit_lit}
+pub use base.Logic.{SProp, ent, sep, emp, all, all_e, via, id⊢, apply∗, fst∗, never}
+pub use base.Fml.{Lft, Share, Fml, ftrue, fsep, fex, feq, flft, fhide, finv, fbor, fobs}
+pub use types.Logic.{sem}
+pub use types.Kit.{‵, raw, ◌⊛◌, some, given, later, mean, at_ret, ◌$◌, ◌∵◌, !, qed, by, move, keep, drop, split, split3, join, group, fsplit, fsplit3, fjoin, fjoin3, fpick, fpack, pick, learn, use0, use1, use2, use3, await, rewrite, feq_i, feq_l, flt_i, suffices, done, Item}
+pub use types.Run.{stop, fld, hop, load, addr, lit, of_opd, no_more, and_then, first, blocks, exec, Calls-last, returns, enter, unit_lit}
 pub use types.ByLocal.{alloc_all, pass_all, free_all, look_at, get, get_in, through, sets, sets_last, lands_last, lands_as, is, env}
 pub use types.Part.{agg, sub, whole, look_in}
-pub use types.Tokens.{shr_bor-open, obor_close, lent_back}
+pub use types.Tokens.{shr_bor-open, obor_close}
 pub use types.Within.{tokens_halve}
-pub use types.RcWeak.{part, part_in}
 pub use contract.Running.{tables}
-pub use contract.Monad.{fact, fact_i, fact_use}
+pub use contract.Monad.{fact, fact_i}
 pub use contract.BorrowLft.{◌⊑◌}
 pub use denote.Exit.{yes, no}
 pub use denote.RattleType.{RattleType, Valss, owns}
 pub use denote.Signature.{types_at, plain}
-pub use denote.RawPtr.{Ptr, InBlock, RawPtr, block_ptr, ptr_val, block_of, count_of, at_block, lies_at, ◌+ₚ◌, null_ptr, in_a_block}
+pub use denote.RawPtr.{Ptr, InBlock, RawPtr, block_ptr, ptr_val, ◌+ₚ◌, null_ptr, in_a_block}
 pub use denote.Steps.{nothing, only, peeks, heard, looks, shuts, opens, closes}
 pub use denote.Opens.{unhide, hide}
 pub use denote.Laws.{Is, shows}
@@ -32,22 +31,20 @@ pub use denote.Param.Laws.{param_laws}
 pub use denote.Builtin.{RefOf, RefMutOf, u64}
 pub use denote.Ref.{shr_vals, shr_Tells, mut_vals, mut_Tells}
 pub use denote.Plain.{uint_vals, uint_Tells}
-pub use denote.Shadow.{makes_shadow}
-pub use denote.Struct.Lending.{lent_out, lent_at, Lends-first, Lends-lies, lent_at_shr_laws}
-pub use denote.Struct.Tuple.{Tuple}
+pub use denote.Struct.Lending.{lent_at, Lends-first, Lends-lies, lent_at_shr_laws}
 pub use denote.Triple.Entry.{alive}
 pub use denote.Triple.Spec.{triple_of}
 pub use denote.Triple.Walked.{Stays, stay_dropped, stay_ref, walk_of, Goes-dropped, Goes-ref, Goes-spent_ref}
 pub use Rattle.std.proofs.VecSteps.Shapes.{after}
 pub use Rattle.atomic_table.proofs.Walks.{proved, proved_at, leaves}
-pub use Rattle.atomic_table.proofs.Calls.{fm, seq_cst, found, finds, loads, adds, subs, swaps, ands, ors, exchanges, picked}
+pub use Rattle.atomic_table.proofs.Calls.{fm, seq_cst, found, finds, loads, adds, subs, swaps, ands, ors, exchanges}
 pub use Rattle.atomic_table.specs.Table.{Me, step, rest, turned, opening, Allows, Enters, Splits, State, Final}
 pub use Rattle.counted_block.specs.declared.place.Place.{Place}
 pub use Rattle.counted_block.specs.Blocks.{BlockId, seat_owns, block, life, place, first_body, tracked, stay, parts, parts_if, words_in, word_of, Known, remains_if, hold_parts_if}
 pub use Rattle.counted_block.specs.Counts.{Notes, Less, Same, Last, More}
 pub use Rattle.counted_block.specs.Held.{content, kept_of, share_shown, value_there, slots_there, rebox, looked_at, hold_shown}
 pub use Rattle.counted_block.proofs.Tokens.{tokens, seven, eight}
-pub use Rattle.counted_block.proofs.Fields.{share_lent, hold_lent, ledger_lent, share_at, hold_at, LedgerMarked, LedgerData, ptr_and_marker, Marked, ShareData, share_told, share_opens, SeatData, MaybeHoldData, maybe_hold_made, pair_typed, marker_val, share_made, seat_made, bare_told, in_place, MaybeShareData, maybe_share_made, RemainsData, remains_made, ledger_made, ptr_typed, maybe_share_told, remains_told, BareData, bare_made, maybe_hold_told, HoldData, hold_made, hold_told, hold_opens}
+pub use Rattle.counted_block.proofs.Fields.{PairData, MarkerData, pair_told, pair_at, pair_made, marker_made, ShareData, HoldData, LedgerData, share_lent, hold_lent, ledger_lent, share_opens, hold_opens, ptr_and_marker, marker_val, in_place, ptr_typed, pair_typed}
 pub use Rattle.counted_block.proofs.Keeping.{kept_inv, kept_shows, kept_twice}
 pub use types.SemTy.{Body}
 pub use denote.Follow.{follows}

@@ -1,5 +1,5 @@
 -- `into_box` makes the box again.
-use Rattle.counted_block.proofs.Names.{◌≡◌, List, [], ◌∷◌, ◌++◌, sym, refl, ap, subst, a_type, dcons, dnil, Val, vptr, inst_fn, SProp, ent, emp, id⊢, ftrue, fsep, flft, sem, ‵, raw, ◌⊛◌, some, later, at_ret, ◌$◌, ◌∵◌, !, qed, by, move, keep, drop, split, split3, join, fsplit, fsplit3, fjoin, fjoin3, pick, suffices, use0, use1, await, rewrite, feq_i, stop, fld, of_opd, no_more, and_then, first, blocks, exec, returns, enter, alloc_all, pass_all, free_all, look_at, get, get_in, sets, is, lands_last, env, sub, whole, tables, fact, fact_i, ◌⊑◌, no, RattleType, plain, Ptr, InBlock, block_ptr, ptr_val, nothing, only, heard, bounded, triple_of, Stays, stay_dropped, walk_of, Goes-dropped, after, proved_at, leaves, fm, never, fst∗, T, has_ty, WT, WpFn, Item, layout, null_ptr, in_a_block, calls_at_last, Lasts, lasts, token, handle_tells, Goes-blank, box_owns, box_out, box_in, ptr_and_marker, pair_typed, bare_told}
+use Rattle.counted_block.proofs.Names.{◌≡◌, List, [], ◌∷◌, ◌++◌, sym, refl, ap, subst, a_type, dcons, dnil, Val, vptr, inst_fn, SProp, ent, emp, id⊢, ftrue, fsep, flft, sem, ‵, raw, ◌⊛◌, some, later, at_ret, ◌$◌, ◌∵◌, !, qed, by, move, keep, drop, split, split3, join, fsplit, fsplit3, fjoin, fjoin3, pick, suffices, use0, use1, await, rewrite, feq_i, stop, fld, of_opd, no_more, and_then, first, blocks, exec, returns, enter, alloc_all, pass_all, free_all, look_at, get, get_in, sets, is, lands_last, env, sub, whole, tables, fact, fact_i, ◌⊑◌, no, RattleType, plain, Ptr, InBlock, block_ptr, ptr_val, nothing, only, heard, bounded, triple_of, Stays, stay_dropped, walk_of, Goes-dropped, after, proved_at, leaves, fm, never, fst∗, T, has_ty, WT, WpFn, Item, layout, null_ptr, in_a_block, calls_at_last, Lasts, lasts, token, handle_tells, Goes-blank, box_owns, box_out, box_in, ptr_and_marker, pair_typed, pair_told}
 use mir.Raw.{raw as bare_ty}
 use Rattle.std.proofs.BoxSteps.Form as box
 use Rattle.std.specs.contracts.boxed.Box.from_raw as callee
@@ -26,7 +26,7 @@ into_box_spec 𝓤 𝓛 𝓜 𝓡 wired X Z L LZ g d dd met md =
     move ! (1 ∷ 2 ∷ 3 ∷ []) $ heard ! inX (λ leX. heard ! inZ (λ leZ. heard ! Asked (λ asked. split ! $ move ! (1 ∷ []) $ fsplit3 ! $ fsplit ! $ drop ! $
     in_a_block ! v.at (λ p. box_owns (token E.al v.heap) R p x) (fst∗ 𝓤 (never 𝓤) (sem 𝓛 (token E.al v.heap (bare_ty (layout X)) null_ptr))) (λ b o at. let p : Ptr = block_ptr b o in
     rewrite ! 0 (λ (s : Z.Denot). ‵ (box_owns (token E.al s) R p x)) asked refl $ move ! (1 ∷ []) $ handle_tells E.al ! a z.0.4.1.0 (λ hv eh fa. move ! (1 ∷ []) $ keep ! (0 ∷ 1 ∷ 3 ∷ []) $
-    let inb : InBlock v.at = subst InBlock (sym at) tt in let us : List Val = ptr_and_marker v.at ∷ hv ∷ [] in let ev : z.0.4.0 ≡ ptr_and_marker v.at ∷ [] = bare_told R P g v.at z.0.4.0 are.0.0 in
+    let inb : InBlock v.at = subst InBlock (sym at) tt in let us : List Val = ptr_and_marker v.at ∷ hv ∷ [] in let ev : z.0.4.0 ≡ ptr_and_marker v.at ∷ [] = pair_told v.at z.0.4.0 are.0.0 in
     let start : Made.Ghost = ((κs, qs, tt, (a, (p, tt)), (hv ∷ [], (vptr b o ∷ [], tt))), x) in
     suffices ! (Run us) (subst (λ (ws : List Val). ent 𝓤 (Run us) (Run ws)) (sym (λ i. ev i ++ (eh i ++ []))) (id⊢ 𝓤 (Run us))) $
     enter ! machine.C machine.Λ routine us returned $ alloc_all ! (λ l. pass_all ! refl (pair_typed v.at inb, (fa, tt)) $ let here = env routine.locals l in

@@ -1,5 +1,5 @@
 -- `of` takes the box apart.
-use Rattle.counted_block.proofs.Names.{◌≡◌, List, [], ◌∷◌, ◌++◌, sym, refl, ap, ◌∙◌, subst, a_type, dcons, dnil, Val, inst_fn, SProp, ent, emp, id⊢, ftrue, fsep, flft, sem, ‵, raw, ◌⊛◌, some, later, ◌$◌, ◌∵◌, !, qed, by, move, keep, drop, split, join, fsplit, fjoin, pick, suffices, use0, use1, await, feq_l, of_opd, no_more, and_then, returns, enter, alloc_all, pass_all, free_all, look_at, get, sets, lands_as, agg, tables, fact, fact_i, ◌⊑◌, no, RattleType, plain, Ptr, RawPtr, block_ptr, ptr_val, nothing, only, heard, bounded, triple_of, Stays, stay_dropped, walk_of, proved_at, leaves, fm, never, fst∗, WpFn, Item, layout, null_ptr, in_a_block, calls_at, token, Goes-blank, box_owns, box_out, box_in, ptr_and_marker, BareData, bare_made}
+use Rattle.counted_block.proofs.Names.{◌≡◌, List, [], ◌∷◌, ◌++◌, sym, refl, ap, ◌∙◌, subst, a_type, dcons, dnil, Val, inst_fn, SProp, ent, emp, id⊢, ftrue, fsep, flft, sem, ‵, raw, ◌⊛◌, some, later, ◌$◌, ◌∵◌, !, qed, by, move, keep, drop, split, join, fsplit, fjoin, pick, suffices, use0, use1, await, feq_l, of_opd, no_more, and_then, returns, enter, alloc_all, pass_all, free_all, look_at, get, sets, lands_as, agg, tables, fact, fact_i, ◌⊑◌, no, RattleType, plain, Ptr, RawPtr, block_ptr, ptr_val, nothing, only, heard, bounded, triple_of, Stays, stay_dropped, walk_of, proved_at, leaves, fm, never, fst∗, WpFn, Item, layout, null_ptr, in_a_block, calls_at, token, Goes-blank, box_owns, box_out, box_in, ptr_and_marker, PairData, pair_made}
 use mir.Raw.{raw as bare_ty}
 use Rattle.std.proofs.BoxSteps.Form as box
 use Rattle.std.specs.contracts.boxed.Box.into_raw as callee
@@ -36,7 +36,7 @@ of_spec 𝓤 𝓛 𝓜 𝓡 wired X Z L LZ g d dx dd met glue md =
     in_a_block ! r (λ p. box_owns (token E.al a) R p x) (fst∗ 𝓤 (never 𝓤) (sem 𝓛 (token E.al a (bare_ty (layout X)) null_ptr))) (λ b' o' e'. let p : Ptr = block_ptr b' o' in
     move ! (1 ∷ []) $ split ! $ move ! (1 ∷ []) $ feq_l ! (λ eu. lands_as ! (ap only eu ∙ ap ptr_val e') refl (tt, tt) $
     sets ! (agg ! (no_more !)) refl (tt, tt) $ sets ! (agg ! (and_then ! (get ! refl) (and_then ! (get ! refl) (no_more !)))) refl (tt, (tt, (tt, tt))) $
-    move ! (1 ∷ []) $ use0 𝓛 (‵ ((BareData R P g).own_val (p, (tt, tt)) (ptr_and_marker p ∷ []))) (bare_made R P g 𝓛 p) $ fjoin ! $
+    move ! (1 ∷ []) $ use0 𝓛 (‵ (PairData.own_val (p, (tt, tt)) (ptr_and_marker p ∷ []))) (pair_made 𝓛 p) $ fjoin ! $
     let br : Br.Denot = record { at = p; marker = record {}; value = x; heap = a } in let Told : Type 0 = (x ≡ x) × (a ≡ a) in
     use0 𝓛 (raw (fact 𝓤 Told)) (fact_i 𝓤 Told (emp 𝓤) (refl, refl)) $ nothing ! $ nothing ! $ fjoin ! $
     returns ! (look_at ! 0 refl) $ free_all ! refl $ keep ! (3 ∷ 0 ∷ 2 ∷ 1 ∷ []) $ by ! (leaves 𝓛 promise staying claims z (ptr_and_marker p) br ((tt, (tt, tt)), tt) (tt, tt))))))))))))

@@ -1,5 +1,5 @@
 -- `value` shows what every hold sees.
-use Rattle.counted_block.proofs.Names.{◌≡◌, ℕ, ◌+◌, List, [], ◌∷◌, sym, refl, named, dcons, dnil, Val, vptr, inst_fn, SProp, emp, Lft, Fml, ftrue, flft, fhide, ‵, raw, ◌⊛◌, at_ret, ◌$◌, ◌∵◌, !, qed, by, move, keep, drop, split, join, fsplit, fjoin, fpick, use0, use1, rewrite, feq_i, stop, hop, fld, addr, of_opd, first, blocks, exec, returns, enter, alloc_all, pass_all, free_all, look_at, get, through, sets, env, sub, whole, look_in, tables, fact, fact_i, yes, RattleType, owns, types_at, plain, Ptr, nothing, peeks, looks, shuts, unhide, Is, shows, cell_at, hidden_shr, param, bounded, RefOf, shr_vals, shr_Tells, Stays, stay_dropped, walk_of, Goes-dropped, after, proved, leaves, sets_last, hide, param_laws, ◌+ₚ◌, lent_at, lent_at_shr_laws, at_value, BlockId, place, content, looked_at, hold_shown, tokens, HoldData, hold_opens, hold_sees, Types, seven, hold_lent, hold_at}
+use Rattle.counted_block.proofs.Names.{◌≡◌, ℕ, ◌+◌, List, [], ◌∷◌, sym, refl, named, dcons, dnil, Val, vptr, inst_fn, SProp, emp, Lft, Fml, ftrue, flft, fhide, ‵, raw, ◌⊛◌, at_ret, ◌$◌, ◌∵◌, !, qed, by, move, keep, drop, split, join, fsplit, fjoin, fpick, use0, use1, rewrite, feq_i, stop, hop, fld, addr, of_opd, first, blocks, exec, returns, enter, alloc_all, pass_all, free_all, look_at, get, through, sets, env, sub, whole, look_in, tables, fact, fact_i, yes, RattleType, owns, types_at, plain, Ptr, nothing, peeks, looks, shuts, unhide, Is, shows, cell_at, hidden_shr, param, bounded, RefOf, shr_vals, shr_Tells, Stays, stay_dropped, walk_of, Goes-dropped, after, proved, leaves, sets_last, hide, param_laws, ◌+ₚ◌, lent_at, lent_at_shr_laws, at_value, BlockId, place, content, looked_at, hold_shown, tokens, HoldData, hold_opens, hold_sees, Types, seven, hold_lent, pair_at}
 use Rattle.counted_block.specs.contracts.hold.Hold as hold
 use Rattle.counted_block.specs.contracts.hold.Hold.value.{ended, clauses}
 use Rattle.counted_block.specs.contracts.hold.Hold.value.Key.{name as #self}
@@ -26,7 +26,7 @@ value_spec 𝓤 𝓛 𝓜 𝓡 wired S₀ W₀ V₀ K₀ Y₀ T₀ A₀ _ _ _ _ 
     use1 𝓛 (‵ (lent_at R (place z +ₚ at_value S W R) x κ)) (hold_sees S W V.coded.code (g.holds s.key) g.out (content S W R k z x) z (looked_at S W R k z x) (lent_at_shr_laws R (param_laws 5 T₀ LT).shr_laws (place z +ₚ at_value S W R) x) 𝓛 κ) $
     fsplit ! $ drop ! $ hide ! $ move ! (1 ∷ 2 ∷ []) $
     looks ! tt D (hold_opens S W V K Y R A g h 𝓛) (p, (tt, tt)) self_block self_offset (λ q vs. move ! (1 ∷ []) $ peeks ! D (Is D) (shows 𝓛 D) (p, (tt, tt)) vs (λ is_so.
-    let ev = hold_at S W V K Y R A g h p z at vs is_so in
+    let ev = pair_at p z at vs is_so in
     rewrite ! 1 (λ (ws : List Val). ‵ (cell_at q D.mir ws self_block self_offset)) ev refl $ first ! $ blocks ! $
     sets_last ! (addr ! (through ! refl (fld ! refl (hop ! (look_in ! 1 (sub ! 0 refl (whole !))) (fld ! refl (stop !)))))) refl (tt, tt) $ exec ! machine.C machine.Λ here (after 1 routine.body) (at_ret here returned) $
     sets ! (of_opd ! (get ! refl)) refl (tt, tt) $ rewrite ! 1 (λ (ws : List Val). ‵ (cell_at q D.mir ws self_block self_offset)) (sym ev) refl $ move ! (1 ∷ 0 ∷ 2 ∷ []) $ shuts ! tt D q (p, (tt, tt)) vs self_block self_offset $

@@ -1,5 +1,5 @@
 -- `first_mut` lends the first slot, and the seat follows it.
-use Rattle.counted_block.proofs.Names.{◌≡◌, ℕ, ◌+◌, List, [], ◌∷◌, sym, refl, ap, named, dcons, dnil, Val, vptr, inst_fn, SProp, emp, Lft, Fml, ftrue, flft, fhide, sem, ‵, raw, ◌⊛◌, given, some, later, await, at_ret, ◌$◌, ◌∵◌, !, qed, by, move, keep, drop, split, split3, join, fsplit, fsplit3, fjoin, fjoin3, fpick, learn, use0, use1, use2, rewrite, feq_i, stop, hop, fld, addr, of_opd, first, blocks, exec, returns, enter, alloc_all, pass_all, free_all, look_at, get, through, sets, env, sub, whole, look_in, tables, fact, fact_i, yes, no, group, Share, RattleType, owns, types_at, plain, Ptr, nothing, peeks, looks, shuts, unhide, Is, shows, cell_at, hidden_shr, param, bounded, RefOf, shr_vals, shr_Tells, mut_vals, mut_Tells, Stays, stay_dropped, walk_of, Goes-dropped, proved, leaves, fbor, fobs, ent, sep, all, all_e, apply∗, pick, done, sets_last, Body, RefMutOf, follows, mem, part_at, part_out, Goes-spent_ref, full_share, tail, Me, rest, hands_out, First, Second, Place, at_first, BlockId, life, first_body, tracked, seat_owns, share_shown, seat_with, tokens, ShareData, share_opens, SeatData, holding, Swapped, Types, seven, share_lent, share_at}
+use Rattle.counted_block.proofs.Names.{◌≡◌, ℕ, ◌+◌, List, [], ◌∷◌, sym, refl, ap, named, dcons, dnil, Val, vptr, inst_fn, SProp, emp, Lft, Fml, ftrue, flft, fhide, sem, ‵, raw, ◌⊛◌, given, some, later, await, at_ret, ◌$◌, ◌∵◌, !, qed, by, move, keep, drop, split, split3, join, fsplit, fsplit3, fjoin, fjoin3, fpick, learn, use0, use1, use2, rewrite, feq_i, stop, hop, fld, addr, of_opd, first, blocks, exec, returns, enter, alloc_all, pass_all, free_all, look_at, get, through, sets, env, sub, whole, look_in, tables, fact, fact_i, yes, no, group, Share, RattleType, owns, types_at, plain, Ptr, nothing, peeks, looks, shuts, unhide, Is, shows, cell_at, hidden_shr, param, bounded, RefOf, shr_vals, shr_Tells, mut_vals, mut_Tells, Stays, stay_dropped, walk_of, Goes-dropped, proved, leaves, fbor, fobs, ent, sep, all, all_e, apply∗, pick, done, sets_last, Body, RefMutOf, follows, mem, part_at, part_out, Goes-spent_ref, full_share, tail, Me, rest, hands_out, First, Second, Place, at_first, BlockId, life, first_body, tracked, seat_owns, share_shown, seat_with, tokens, ShareData, share_opens, holding, Swapped, Types, seven, share_lent, MarkerData, pair_at}
 use denote.Struct.OwningLaws.{part_in}
 use Rattle.counted_block.specs.contracts.share.Share as share
 use Rattle.counted_block.specs.contracts.seat.Seat as seat
@@ -24,7 +24,7 @@ first_mut_spec 𝓤 𝓛 𝓜 𝓡 wired S₀ W₀ V₀ K₀ Y₀ T₀ A₀ _ _ 
     (λ κs. (mut_vals, (shr_vals, tt))) (λ κs. (mut_Tells (named 0) κs.0 Sr, (shr_Tells (named 0) κs.0 OwnRow, tt))) (λ κs qs bounds a gh are.
     let self_block : ℕ = a.1.0.ref_ptr.0 in let self_offset : ℕ = a.1.0.ref_ptr.1 in let κ : Lft = κs.0 in let q : Share = qs.0 in let s : OwnRow.Denot = a.1.0.now in let p : Ptr = s.at in let x : R.Denot = s.value in let k = h.dealloc_token s.heap in let z : BlockId = s.id in let α : Lft = life z in
     let seat_block : ℕ = a.0.ref_ptr.0 in let seat_offset : ℕ = a.0.ref_ptr.1 in let γ : ℕ = a.0.ghost_name in let t : Sr.Denot = a.0.now in let id : ℕ = t.id in let v : Me (Place S.Denot W.Denot) V.Denot = t.me in let more : List (ℕ × Place S.Denot W.Denot) = rest v.1 in let pb : ℕ = z.block in let e : ℕ = z.offset + at_first S in let δ : ℕ = z.first in
-    let F : S.Denot → Sr.Denot = seat_with t in let Mark : Fml = part_at (SeatData S W V) full_share (tt, tt) seat_block seat_offset in let Back : Place S.Denot W.Denot → SProp 𝓤 = Swapped 𝓛 S W z V.coded.code id v.0 n more in let Rest : SProp 𝓤 = sep 𝓤 (all 𝓤 Back) (sem 𝓛 Mark) in let In : Fml = first_body S W z in
+    let F : S.Denot → Sr.Denot = seat_with t in let Mark : Fml = part_at MarkerData full_share (tt, tt) seat_block seat_offset in let Back : Place S.Denot W.Denot → SProp 𝓤 = Swapped 𝓛 S W z V.coded.code id v.0 n more in let Rest : SProp 𝓤 = sep 𝓤 (all 𝓤 Back) (sem 𝓛 Mark) in let In : Fml = first_body S W z in
     let start : (walk_of 𝓛 promise staying claims).Ghost = ((κs, qs, bounds, a, (vptr seat_block seat_offset ∷ [], (vptr self_block self_offset ∷ [], tt))), gh) in let returned : Val → SProp 𝓤 = (walk_of 𝓛 promise staying claims).post start in
     let Beside : Fml = tokens 7 κs.1 qs.1 in
     qed 𝓛 (((‵ (flft κ q) ⊛ ‵ Beside) ⊛ ‵ (owns (types_at promise.signature.params κs) a start.0.4)) ∷ raw (fact 𝓤 _) ∷ raw (fact 𝓤 _) ∷ raw (fact 𝓤 _) ∷ raw (fact 𝓤 _) ∷ raw (fact 𝓤 _) ∷ raw (fact 𝓤 _) ∷ raw (fact 𝓤 _) ∷ given (t.block ≡ z) (‵ ftrue) ∷ given ((old : S.Denot) × (v.1 ≡ (n, First old) ∷ more)) (‵ ftrue) ∷ []) ∵
@@ -43,7 +43,7 @@ first_mut_spec 𝓤 𝓛 𝓜 𝓡 wired S₀ W₀ V₀ K₀ Y₀ T₀ A₀ _ _ 
     split ! $ move ! (1 ∷ []) $ unhide ! $ fsplit ! $ fpick ! (λ at. drop ! $ fsplit ! $ fsplit ! $ move ! (1 ∷ []) $ drop ! $ move ! (1 ∷ []) $ drop ! $
     -- [the age's token, lent; the fields; the seat's value; its borrow; the token; the others]
     move ! (1 ∷ 4 ∷ []) $ looks ! tt D (share_opens S W V K Y R A g h 𝓛) (p, (tt, tt)) self_block self_offset (λ q' vs. move ! (1 ∷ []) $ peeks ! D (Is D) (shows 𝓛 D) (p, (tt, tt)) vs (λ is_so.
-    let ev = share_at S W V K Y R A g h p z at vs is_so in
+    let ev = pair_at p z at vs is_so in
     rewrite ! 1 (λ (ws : List Val). ‵ (cell_at q' D.mir ws self_block self_offset)) ev refl $ first ! $ blocks ! $
     sets ! (addr ! (through ! refl (fld ! refl (hop ! (look_in ! 1 (sub ! 0 refl (whole !))) (fld ! refl (stop !)))))) refl (tt, tt) $
     rewrite ! 1 (λ (ws : List Val). ‵ (cell_at q' D.mir ws self_block self_offset)) (sym ev) refl $ move ! (1 ∷ 0 ∷ 2 ∷ []) $ shuts ! tt D q' (p, (tt, tt)) vs self_block self_offset $

@@ -1,5 +1,5 @@
 -- `begin` lends the value and the slots, and makes one share or two, and a seat.
-use Rattle.counted_block.proofs.Names.{◌≡◌, ℕ, List, [], ◌∷◌, ◌++◌, sym, refl, ap, named, dcons, dnil, Val, vptr, vstruct, vcons, vnil, of_list, inst_fn, SProp, emp, Lft, Fml, ftrue, fsep, feq, flft, sem, ‵, raw, ◌⊛◌, given, some, later, await, ◌$◌, ◌∵◌, !, qed, by, move, keep, drop, split, split3, join, fsplit, fjoin, fjoin3, fpack, learn, use0, use1, rewrite, feq_i, stop, fld, of_opd, no_more, and_then, returns, enter, alloc_all, pass_all, free_all, look_at, get, get_in, sets, is, agg, sub, whole, tables, fact, fact_i, yes, no, group, RattleType, Valss, owns, types_at, plain, Ptr, block_ptr, ptr_val, nothing, heard, param, bounded, RefOf, shr_vals, shr_Tells, Stays, stay_dropped, walk_of, Goes-dropped, proved, leaves, fst∗, never, ◌⊑◌, pick, lone, param_laws, null_ptr, in_a_block, ◌+ₚ◌, contraction, Lends-first, Lends-lies, lent_at_shr_laws, box_owns, opening, First, Second, at_value, BlockId, life, place, parts, parts_if, seat_owns, words_in, value_there, slots_there, rebox, content, looked_at, kept_of, unnamed, begun, unboxes, ptr_and_marker, pair_typed, marker_val, ShareData, share_made, SeatData, seat_made, bare_told, kept_twice, Types, seven, Bool, ◌<◌, eqb, MaybeShareData, maybe_share_made, first_counts}
+use Rattle.counted_block.proofs.Names.{◌≡◌, ℕ, List, [], ◌∷◌, ◌++◌, sym, refl, ap, named, dcons, dnil, Val, vptr, vstruct, vcons, vnil, of_list, inst_fn, SProp, emp, Lft, Fml, ftrue, fsep, feq, flft, sem, ‵, raw, ◌⊛◌, given, some, later, await, ◌$◌, ◌∵◌, !, qed, by, move, keep, drop, split, split3, join, fsplit, fjoin, fjoin3, fpack, learn, use0, use1, rewrite, feq_i, stop, fld, of_opd, no_more, and_then, returns, enter, alloc_all, pass_all, free_all, look_at, get, get_in, sets, is, agg, sub, whole, tables, fact, fact_i, yes, no, group, RattleType, Valss, owns, types_at, plain, Ptr, block_ptr, ptr_val, nothing, heard, param, bounded, RefOf, shr_vals, shr_Tells, Stays, stay_dropped, walk_of, Goes-dropped, proved, leaves, fst∗, never, ◌⊑◌, pick, lone, param_laws, null_ptr, in_a_block, ◌+ₚ◌, contraction, Lends-first, Lends-lies, lent_at_shr_laws, box_owns, opening, First, Second, at_value, BlockId, life, place, parts, parts_if, seat_owns, words_in, value_there, slots_there, rebox, content, looked_at, kept_of, unnamed, begun, unboxes, ptr_and_marker, pair_typed, marker_val, kept_twice, Types, seven, Bool, ◌<◌, eqb, first_counts, PairData, MarkerData, pair_told, pair_made, marker_made}
 use mir.Raw.{raw as bare_ty}
 use Rattle.counted_block.specs.contracts.bare.Bare as bare
 use Rattle.counted_block.specs.contracts.inner.Inner as inner
@@ -19,7 +19,7 @@ begin_spec 𝓤 𝓛 𝓜 𝓡 wired S₀ W₀ V₀ K₀ Y₀ T₀ A₀ LS LW _ 
     let OwnRow : RattleType = share.the_row S W V K Y R A g h in let MaybeRow : RattleType = maybe_share.the_row S W V K Y R A g h in let Ir : RattleType = inner.the_row S W R in let Br : RattleType = bare.the_row Ir A h in let SeatRow : RattleType = seat.the_row S W V in let box = plain (λ _. Br) in let about = RefOf (0 ∷ []) tt (plain (λ _. K)) (λ _. tt) in
     let LR = param_laws 5 T₀ LT in let staying : Stays promise.signature.params promise.kept = (stay_dropped box no, (stay_dropped about yes, tt)) in
     proved 𝓛 promise staying claims 𝓜 𝓡 (Goes-dropped 𝓛 8 box no (λ κs x f. refl), (Goes-dropped 𝓛 8 about yes (λ κs x f. refl), tt)) (#self at_types) routine (code.unfolded 𝓤 H 𝓜 𝓡 wired types d dh dd)
-    (λ κs. ((λ w. ptr_and_marker w.at ∷ []), (shr_vals, tt))) (λ κs. ((λ w vs so. bare_told Ir A h w.at vs so.0), (shr_Tells (named 0) κs.0 K, tt))) (λ κs qs bounds a gh are.
+    (λ κs. ((λ w. ptr_and_marker w.at ∷ []), (shr_vals, tt))) (λ κs. ((λ w vs so. pair_told w.at vs so.0), (shr_Tells (named 0) κs.0 K, tt))) (λ κs qs bounds a gh are.
     let s : Br.Denot = a.0 in let y : Bool = eqb (g.out s.value.word) 2 in let p₀ : Ptr = s.at in let i : Ir.Denot = s.value in let n : ℕ = i.word in let x : R.Denot = i.value in let m : S.Denot × W.Denot = (i.first, i.second) in let k = h.dealloc_token s.heap in let about_at : Val = vptr a.1.0.ref_ptr.0 a.1.0.ref_ptr.1 in
     let key : K.Denot = a.1.0.now in let holds = g.holds key in let v : V.Denot = g.first key in let κ : Lft = κs.1.1.1.1.1.1.0 in let inT : Type 0 = κ ⊑ T₀.lives in
     let start : (walk_of 𝓛 promise staying claims).Ghost = ((κs, qs, bounds, a, (ptr_and_marker p₀ ∷ [], (about_at ∷ [], tt))), gh) in let returned : Val → SProp 𝓤 = (walk_of 𝓛 promise staying claims).post start in
@@ -48,9 +48,9 @@ begin_spec 𝓤 𝓛 𝓜 𝓡 wired S₀ W₀ V₀ K₀ Y₀ T₀ A₀ LS LW _ 
     let Kp : Fml = kept_of S W R V.coded.code holds g.out k z x in let Look : Fml = looked_at S W R k z x (life z) in
     move ! (1 ∷ []) $ use1 𝓛 (‵ Kp ⊛ ‵ Kp) (kept_twice S W V.coded.code holds g.out (content S W R k z x) z 𝓛) $ split ! $
     move ! (3 ∷ []) $ use1 𝓛 (‵ Look ⊛ ‵ Look) (contraction 𝓛 (looked_at S W R k z x) (lent_at_shr_laws R LR.shr_laws (place z +ₚ at_value S W R) x) (life z)) $ split ! $
-    move ! (6 ∷ 2 ∷ 0 ∷ []) $ fjoin3 ! $ nothing ! $ fpack ! (block_ptr b o ≡ place z) (λ _. ftrue) (sym at') $ fjoin ! $ use0 𝓛 (‵ ((ShareData S W V K Y R A g h).own_val (block_ptr b o, (tt, tt)) (ptr_and_marker (block_ptr b o) ∷ []))) (share_made S W V K Y R A g h 𝓛 (block_ptr b o)) $ fjoin ! $
-    move ! (5 ∷ 2 ∷ 1 ∷ []) $ fjoin3 ! $ nothing ! $ fpack ! (block_ptr b o ≡ place z) (λ _. ftrue) (sym at') $ fjoin ! $ use0 𝓛 (‵ ((MaybeShareData S W V K Y R A g h).own_val (block_ptr b o, (tt, tt)) (ptr_and_marker (block_ptr b o) ∷ []))) (maybe_share_made S W V K Y R A g h 𝓛 (block_ptr b o)) $ fjoin ! $
-    move ! (3 ∷ []) $ use0 𝓛 (‵ ((SeatData S W V).own_val (tt, tt) (marker_val ∷ []))) (seat_made S W V 𝓛) $ fjoin ! $ nothing ! $ move ! (1 ∷ 0 ∷ []) $ fjoin ! $ move ! (2 ∷ 1 ∷ 0 ∷ []) $ fjoin3 ! $
+    move ! (6 ∷ 2 ∷ 0 ∷ []) $ fjoin3 ! $ nothing ! $ fpack ! (block_ptr b o ≡ place z) (λ _. ftrue) (sym at') $ fjoin ! $ use0 𝓛 (‵ (PairData.own_val (block_ptr b o, (tt, tt)) (ptr_and_marker (block_ptr b o) ∷ []))) (pair_made 𝓛 (block_ptr b o)) $ fjoin ! $
+    move ! (5 ∷ 2 ∷ 1 ∷ []) $ fjoin3 ! $ nothing ! $ fpack ! (block_ptr b o ≡ place z) (λ _. ftrue) (sym at') $ fjoin ! $ use0 𝓛 (‵ (PairData.own_val (block_ptr b o, (tt, tt)) (ptr_and_marker (block_ptr b o) ∷ []))) (pair_made 𝓛 (block_ptr b o)) $ fjoin ! $
+    move ! (3 ∷ []) $ use0 𝓛 (‵ (MarkerData.own_val (tt, tt) (marker_val ∷ []))) (marker_made 𝓛) $ fjoin ! $ nothing ! $ move ! (1 ∷ 0 ∷ []) $ fjoin ! $ move ! (2 ∷ 1 ∷ 0 ∷ []) $ fjoin3 ! $
     let q : Val = ptr_and_marker (block_ptr b o) in let sh : OwnRow.Denot = record { at = block_ptr b o; marker = record {}; id = z; key = key; value = x; heap = s.heap } in let mh : MaybeRow.Denot = record { at = block_ptr b o; marker = record {}; id = z; key = key; value = x; heap = s.heap; there = y } in let st : SeatRow.Denot = record { marker = record {}; block = z; id = 0; me = (v, []) } in let u : Val = vstruct (vcons q (vcons q (vcons marker_val vnil))) in
     feq_i ! (List Val) (u ∷ []) (u ∷ []) refl $ fjoin ! $
     fpack ! (Valss (OwnRow ∷ MaybeRow ∷ SeatRow ∷ [])) (λ uss. fsep (feq (List Val) (u ∷ []) (vstruct (of_list (uss.0 ++ (uss.1.0 ++ (uss.1.1.0 ++ [])))) ∷ [])) (owns (OwnRow ∷ MaybeRow ∷ SeatRow ∷ []) (sh, (mh, (st, tt))) uss)) (q ∷ [], (q ∷ [], (marker_val ∷ [], tt))) $

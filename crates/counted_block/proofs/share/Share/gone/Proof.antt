@@ -1,5 +1,5 @@
 -- `gone` keeps what there is without a share, and copies where it lies.
-use Rattle.counted_block.proofs.Names.{◌≡◌, ℕ, List, [], ◌∷◌, refl, sym, named, dcons, dnil, Val, vptr, inst_fn, SProp, emp, Lft, Fml, ftrue, flft, fhide, ‵, raw, ◌⊛◌, ◌$◌, ◌∵◌, !, qed, by, move, keep, drop, split, join, fsplit, fjoin, fjoin3, fpick, fpack, use0, use1, rewrite, stop, fld, load, of_opd, no_more, and_then, returns, enter, alloc_all, pass_all, free_all, look_at, get, through, sets, agg, sub, whole, look_in, tables, fact, fact_i, yes, RattleType, owns, types_at, plain, Ptr, nothing, peeks, looks, shuts, unhide, Is, shows, cell_at, hidden_shr, param, bounded, RefOf, shr_vals, shr_Tells, Stays, stay_dropped, walk_of, Goes-dropped, proved, leaves, false, BlockId, stay, place, content, share_shown, tokens, ptr_and_marker, ShareData, share_opens, MaybeShareData, maybe_share_made, Types, seven, share_lent, share_at}
+use Rattle.counted_block.proofs.Names.{◌≡◌, ℕ, List, [], ◌∷◌, refl, sym, named, dcons, dnil, Val, vptr, inst_fn, SProp, emp, Lft, Fml, ftrue, flft, fhide, ‵, raw, ◌⊛◌, ◌$◌, ◌∵◌, !, qed, by, move, keep, drop, split, join, fsplit, fjoin, fjoin3, fpick, fpack, use0, use1, rewrite, stop, fld, load, of_opd, no_more, and_then, returns, enter, alloc_all, pass_all, free_all, look_at, get, through, sets, agg, sub, whole, look_in, tables, fact, fact_i, yes, RattleType, owns, types_at, plain, Ptr, nothing, peeks, looks, shuts, unhide, Is, shows, cell_at, hidden_shr, param, bounded, RefOf, shr_vals, shr_Tells, Stays, stay_dropped, walk_of, Goes-dropped, proved, leaves, false, BlockId, stay, place, content, share_shown, tokens, ptr_and_marker, ShareData, share_opens, Types, seven, share_lent, PairData, pair_at, pair_made}
 use Rattle.counted_block.specs.contracts.share.Share as share
 use Rattle.counted_block.specs.contracts.share.MaybeShare as maybe_share
 use Rattle.counted_block.specs.contracts.share.Share.gone.{ended, clauses}
@@ -27,7 +27,7 @@ gone_spec 𝓤 𝓛 𝓜 𝓡 wired S₀ W₀ V₀ K₀ Y₀ T₀ A₀ _ _ _ _ _
     split ! $ move ! (1 ∷ []) $ unhide ! $ fsplit ! $ fpick ! (λ at. drop ! $ fsplit ! $ drop ! $ fsplit ! $
     -- [what is kept; the value; the fields; the token; the others]
     move ! (2 ∷ 3 ∷ []) $ looks ! tt D (share_opens S W V K Y R A g h 𝓛) (p, (tt, tt)) self_block self_offset (λ q vs. move ! (1 ∷ []) $ peeks ! D (Is D) (shows 𝓛 D) (p, (tt, tt)) vs (λ is_so.
-    let ev = share_at S W V K Y R A g h p z at vs is_so in
+    let ev = pair_at p z at vs is_so in
     rewrite ! 1 (λ (ws : List Val). ‵ (cell_at q D.mir ws self_block self_offset)) ev refl $
     sets ! (of_opd ! (load ! (through ! refl (fld ! refl (stop !))) (look_in ! 1 (sub ! 0 refl (whole !))))) refl (tt, tt) $
     rewrite ! 1 (λ (ws : List Val). ‵ (cell_at q D.mir ws self_block self_offset)) (sym ev) refl $ move ! (1 ∷ 0 ∷ 2 ∷ []) $ shuts ! tt D q (p, (tt, tt)) vs self_block self_offset $
@@ -35,7 +35,7 @@ gone_spec 𝓤 𝓛 𝓜 𝓡 wired S₀ W₀ V₀ K₀ Y₀ T₀ A₀ _ _ _ _ _
     -- [the token; the fields; what is kept; the value; the others]
     nothing ! $ move ! (0 ∷ 3 ∷ 4 ∷ []) $ fjoin3 ! $ nothing ! $ fpack ! (place z ≡ place z) (λ _. ftrue) refl $ fjoin ! $
     let mh : MaybeRow.Denot = record { at = place z; marker = s.marker; id = z; key = s.key; value = x; heap = s.heap; there = false } in
-    use0 𝓛 (‵ ((MaybeShareData S W V K Y R A g h).own_val (place z, (tt, tt)) (ptr_and_marker (place z) ∷ []))) (maybe_share_made S W V K Y R A g h 𝓛 (place z)) $ fjoin ! $
+    use0 𝓛 (‵ (PairData.own_val (place z, (tt, tt)) (ptr_and_marker (place z) ∷ []))) (pair_made 𝓛 (place z)) $ fjoin ! $
     -- [the result; the token; the fields; the others]
     move ! (1 ∷ 3 ∷ []) $ join ! $ nothing ! $ nothing ! $ fjoin ! $
     let Told : Type 0 = (z ≡ z) × (s.key ≡ s.key) × (x ≡ x) × (s.heap ≡ s.heap) × (false ≡ false) in use0 𝓛 (raw (fact 𝓤 Told)) (fact_i 𝓤 Told (emp 𝓤) (refl, refl, refl, refl, refl)) $

@@ -1,5 +1,5 @@
 -- `load` is one step on the word of the block, and the seat goes with it.
-use Rattle.counted_block.proofs.Names.{◌≡◌, ℕ, ◌+◌, ◌^◌, List, [], ◌∷◌, sym, refl, lit<, w64, named, dcons, dnil, Val, vint, vptr, inst_fn, SProp, emp, Lft, Fml, ftrue, flft, fhide, finv, ‵, raw, ◌⊛◌, given, mean, at_ret, ◌$◌, ◌∵◌, !, qed, by, move, keep, drop, split, split3, join, fsplit, fsplit3, fjoin, fjoin3, fpick, learn, use0, use1, use3, via, rewrite, feq_i, flt_i, stop, hop, fld, addr, lit, of_opd, no_more, and_then, first, blocks, exec, Calls-last, returns, enter, alloc_all, pass_all, free_all, look_at, get, through, sets, lands_last, env, agg, sub, whole, look_in, tables, fact, fact_i, yes, RattleType, owns, types_at, plain, Ptr, block_ptr, nothing, peeks, looks, shuts, opens, closes, unhide, Is, shows, cell_at, hidden_shr, param, bounded, RefOf, shr_vals, shr_Tells, mut_vals, mut_Tells, shr_bor-open, obor_close, tokens_halve, Stays, stay_dropped, stay_ref, walk_of, Goes-dropped, Goes-ref, after, proved, leaves, fm, seq_cst, found, finds, loads, Me, step, Allows, Place, BlockId, stay, seat_owns, block, Same, content, share_shown, tokens, ShareData, share_opens, kept_inv, Types, eight, share_lent, share_at}
+use Rattle.counted_block.proofs.Names.{◌≡◌, ℕ, ◌+◌, ◌^◌, List, [], ◌∷◌, sym, refl, lit<, w64, named, dcons, dnil, Val, vint, vptr, inst_fn, SProp, emp, Lft, Fml, ftrue, flft, fhide, finv, ‵, raw, ◌⊛◌, given, mean, at_ret, ◌$◌, ◌∵◌, !, qed, by, move, keep, drop, split, split3, join, fsplit, fsplit3, fjoin, fjoin3, fpick, learn, use0, use1, use3, via, rewrite, feq_i, flt_i, stop, hop, fld, addr, lit, of_opd, no_more, and_then, first, blocks, exec, Calls-last, returns, enter, alloc_all, pass_all, free_all, look_at, get, through, sets, lands_last, env, agg, sub, whole, look_in, tables, fact, fact_i, yes, RattleType, owns, types_at, plain, Ptr, block_ptr, nothing, peeks, looks, shuts, opens, closes, unhide, Is, shows, cell_at, hidden_shr, param, bounded, RefOf, shr_vals, shr_Tells, mut_vals, mut_Tells, shr_bor-open, obor_close, tokens_halve, Stays, stay_dropped, stay_ref, walk_of, Goes-dropped, Goes-ref, after, proved, leaves, fm, seq_cst, found, finds, loads, Me, step, Allows, Place, BlockId, stay, seat_owns, block, Same, content, share_shown, tokens, ShareData, share_opens, kept_inv, Types, eight, share_lent, pair_at}
 use mathlib.Core.Option as maybe
 use Rattle.counted_block.specs.contracts.share.Share as share
 use Rattle.counted_block.specs.contracts.seat.Seat as seat
@@ -32,7 +32,7 @@ load_spec 𝓤 𝓛 𝓜 𝓡 wired S₀ W₀ V₀ K₀ Y₀ T₀ A₀ M₀ _ _ 
     -- [the invariant; the value; the two tokens, lent; the fields; the token; the seat, in two; its token; the others]
     move ! (1 ∷ []) $ drop ! $ move ! (1 ∷ []) $ drop ! $ move ! (2 ∷ 3 ∷ 1 ∷ []) $
     looks ! tt D (share_opens S W V K Y R A g h 𝓛) (p, (tt, tt)) self_block self_offset (λ q vs. move ! (1 ∷ []) $ peeks ! D (Is D) (shows 𝓛 D) (p, (tt, tt)) vs (λ is_so.
-    let ev = share_at S W V K Y R A g h p z at vs is_so in
+    let ev = pair_at p z at vs is_so in
     rewrite ! 1 (λ (ws : List Val). ‵ (cell_at q D.mir ws self_block self_offset)) ev refl $ first ! $ blocks ! $
     sets ! (addr ! (through ! refl (fld ! refl (hop ! (look_in ! 1 (sub ! 0 refl (whole !))) (fld ! refl (stop !)))))) refl (tt, tt) $
     rewrite ! 1 (λ (ws : List Val). ‵ (cell_at q D.mir ws self_block self_offset)) (sym ev) refl $ move ! (1 ∷ 0 ∷ 2 ∷ []) $ shuts ! tt D q (p, (tt, tt)) vs self_block self_offset $

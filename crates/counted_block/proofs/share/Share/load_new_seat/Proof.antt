@@ -1,5 +1,5 @@
 -- `load_new_seat` is a load that makes a new seat.
-use Rattle.counted_block.proofs.Names.{◌≡◌, ℕ, ◌+◌, ◌^◌, List, [], ◌∷◌, ◌++◌, sym, refl, lit<, w64, named, dcons, dnil, Val, vint, vptr, vstruct, vcons, vnil, of_list, inst_fn, SProp, emp, Lft, Fml, ftrue, fsep, feq, flft, fhide, finv, ‵, raw, ◌⊛◌, given, mean, at_ret, ◌$◌, ◌∵◌, !, qed, by, move, keep, drop, split, join, fsplit, fjoin, fpick, fpack, learn, use0, use1, use2, via, rewrite, feq_i, flt_i, stop, hop, fld, addr, lit, of_opd, no_more, and_then, first, blocks, exec, Calls-last, returns, enter, alloc_all, pass_all, free_all, look_at, get, through, sets, lands_last, env, agg, sub, whole, look_in, tables, fact, fact_i, yes, RattleType, Valss, owns, types_at, plain, Ptr, block_ptr, nothing, peeks, looks, shuts, unhide, Is, shows, cell_at, hidden_shr, u64, param, bounded, RefOf, shr_vals, shr_Tells, shr_bor-open, obor_close, tokens_halve, Stays, stay_dropped, walk_of, Goes-dropped, after, proved, leaves, fm, seq_cst, found, finds, loads, step, Enters, BlockId, stay, block, content, share_shown, tokens, marker_val, ShareData, share_opens, SeatData, seat_made, kept_inv, Types, eight, share_lent, share_at}
+use Rattle.counted_block.proofs.Names.{◌≡◌, ℕ, ◌+◌, ◌^◌, List, [], ◌∷◌, ◌++◌, sym, refl, lit<, w64, named, dcons, dnil, Val, vint, vptr, vstruct, vcons, vnil, of_list, inst_fn, SProp, emp, Lft, Fml, ftrue, fsep, feq, flft, fhide, finv, ‵, raw, ◌⊛◌, given, mean, at_ret, ◌$◌, ◌∵◌, !, qed, by, move, keep, drop, split, join, fsplit, fjoin, fpick, fpack, learn, use0, use1, use2, via, rewrite, feq_i, flt_i, stop, hop, fld, addr, lit, of_opd, no_more, and_then, first, blocks, exec, Calls-last, returns, enter, alloc_all, pass_all, free_all, look_at, get, through, sets, lands_last, env, agg, sub, whole, look_in, tables, fact, fact_i, yes, RattleType, Valss, owns, types_at, plain, Ptr, block_ptr, nothing, peeks, looks, shuts, unhide, Is, shows, cell_at, hidden_shr, u64, param, bounded, RefOf, shr_vals, shr_Tells, shr_bor-open, obor_close, tokens_halve, Stays, stay_dropped, walk_of, Goes-dropped, after, proved, leaves, fm, seq_cst, found, finds, loads, step, Enters, BlockId, stay, block, content, share_shown, tokens, marker_val, ShareData, share_opens, kept_inv, Types, eight, share_lent, MarkerData, pair_at, marker_made}
 use mathlib.Core.Option as maybe
 use Rattle.counted_block.specs.contracts.share.Share as share
 use Rattle.counted_block.specs.contracts.seat.Seat as seat
@@ -30,7 +30,7 @@ load_new_seat_spec 𝓤 𝓛 𝓜 𝓡 wired S₀ W₀ V₀ K₀ Y₀ T₀ A₀ 
     split ! $ move ! (1 ∷ []) $ unhide ! $ fsplit ! $ fpick ! (λ at. drop ! $ fsplit ! $ fsplit ! $ move ! (2 ∷ []) $ fsplit ! $ use1 𝓛 (‵ (finv J)) (kept_inv S W V.coded.code holds g.out P z 𝓛) $
     move ! (1 ∷ []) $ drop ! $ move ! (1 ∷ []) $ drop ! $ move ! (2 ∷ 3 ∷ 1 ∷ []) $
     looks ! tt D (share_opens S W V K Y R A g h 𝓛) (p, (tt, tt)) self_block self_offset (λ q vs. move ! (1 ∷ []) $ peeks ! D (Is D) (shows 𝓛 D) (p, (tt, tt)) vs (λ is_so.
-    let ev = share_at S W V K Y R A g h p z at vs is_so in
+    let ev = pair_at p z at vs is_so in
     rewrite ! 1 (λ (ws : List Val). ‵ (cell_at q D.mir ws self_block self_offset)) ev refl $ first ! $ blocks ! $
     sets ! (addr ! (through ! refl (fld ! refl (hop ! (look_in ! 1 (sub ! 0 refl (whole !))) (fld ! refl (stop !)))))) refl (tt, tt) $
     rewrite ! 1 (λ (ws : List Val). ‵ (cell_at q D.mir ws self_block self_offset)) (sym ev) refl $ move ! (1 ∷ 0 ∷ 2 ∷ []) $ shuts ! tt D q (p, (tt, tt)) vs self_block self_offset $
@@ -44,7 +44,7 @@ load_new_seat_spec 𝓤 𝓛 𝓜 𝓡 wired S₀ W₀ V₀ K₀ Y₀ T₀ A₀ 
     sets ! (agg ! (no_more !)) refl (tt, tt) $ sets ! (agg ! (and_then ! (get ! refl) (no_more !))) refl (tt, (tt, tt)) $ sets ! (agg ! (and_then ! (get ! refl) (and_then ! (get ! refl) (no_more !)))) refl (tt, (record { fits = fits }, ((tt, tt), tt))) $
     fsplit ! $ move ! (2 ∷ 0 ∷ []) $ obor_close ! tt $ drop ! $
     -- [the token; where the seat comes; the fields; the others]
-    move ! (1 ∷ []) $ fpick ! (λ t. fsplit ! $ fpick ! (λ so. drop ! $ use0 𝓛 (‵ ((SeatData S W V).own_val (tt, tt) (marker_val ∷ []))) (seat_made S W V 𝓛) $ fjoin ! $ nothing ! $ move ! (1 ∷ 0 ∷ []) $ fjoin ! $
+    move ! (1 ∷ []) $ fpick ! (λ t. fsplit ! $ fpick ! (λ so. drop ! $ use0 𝓛 (‵ (MarkerData.own_val (tt, tt) (marker_val ∷ []))) (marker_made 𝓛) $ fjoin ! $ nothing ! $ move ! (1 ∷ 0 ∷ []) $ fjoin ! $
     let u : Val = vstruct (vcons (vint w64 n) (vcons marker_val vnil)) in let st : SeatRow.Denot = record { marker = record {}; block = z; id = t.0; me = (t.1, []) } in
     flt_i ! n (2 ^ 64) fits $ feq_i ! (List Val) (vint w64 n ∷ []) (vint w64 n ∷ []) refl $ fjoin ! $ fjoin ! $ feq_i ! (List Val) (u ∷ []) (u ∷ []) refl $ fjoin ! $
     fpack ! (Valss (u64 ∷ SeatRow ∷ [])) (λ uss. fsep (feq (List Val) (u ∷ []) (vstruct (of_list (uss.0 ++ (uss.1.0 ++ []))) ∷ [])) (owns (u64 ∷ SeatRow ∷ []) (n, (st, tt)) uss)) (vint w64 n ∷ [], (marker_val ∷ [], tt)) $

@@ -1,5 +1,5 @@
 -- `part` is one fetch, by which the share may end.
-use Rattle.counted_block.proofs.Names.{◌≡◌, ℕ, ◌+◌, ◌-◌, ◌%◌, ◌^◌, List, [], ◌∷◌, ◌++◌, sym, refl, ap, lit<, w64, named, dcons, dnil, Val, vint, vptr, vstruct, vcons, vnil, of_list, inst_fn, SProp, emp, Fml, ftrue, fsep, feq, flft, finv, ‵, raw, ◌⊛◌, given, mean, at_ret, ◌$◌, ◌∵◌, !, qed, by, move, keep, drop, split, join, fsplit, fsplit3, fjoin, fjoin3, fpick, fpack, learn, use0, use1, use3, via, rewrite, feq_i, flt_i, stop, fld, addr, lit, of_opd, no_more, and_then, first, blocks, exec, Calls-last, returns, enter, alloc_all, pass_all, free_all, look_at, get, get_in, through, sets, is, lands_last, env, agg, sub, whole, tables, fact, fact_i, yes, no, RattleType, Valss, owns, types_at, plain, Ptr, block_ptr, ptr_val, nothing, opens, closes, u64, param, bounded, mut_vals, mut_Tells, uint_vals, uint_Tells, Stays, stay_dropped, stay_ref, walk_of, Goes-dropped, Goes-ref, after, proved, leaves, fm, seq_cst, found, finds, subs, not, Me, step, Allows, Place, BlockId, place, parts_if, seat_owns, block, Less, content, kept_of, tokens, ptr_and_marker, pair_typed, in_place, share_told, MaybeShareData, maybe_share_made, kept_shows, Types, eight}
+use Rattle.counted_block.proofs.Names.{◌≡◌, ℕ, ◌+◌, ◌-◌, ◌%◌, ◌^◌, List, [], ◌∷◌, ◌++◌, sym, refl, ap, lit<, w64, named, dcons, dnil, Val, vint, vptr, vstruct, vcons, vnil, of_list, inst_fn, SProp, emp, Fml, ftrue, fsep, feq, flft, finv, ‵, raw, ◌⊛◌, given, mean, at_ret, ◌$◌, ◌∵◌, !, qed, by, move, keep, drop, split, join, fsplit, fsplit3, fjoin, fjoin3, fpick, fpack, learn, use0, use1, use3, via, rewrite, feq_i, flt_i, stop, fld, addr, lit, of_opd, no_more, and_then, first, blocks, exec, Calls-last, returns, enter, alloc_all, pass_all, free_all, look_at, get, get_in, through, sets, is, lands_last, env, agg, sub, whole, tables, fact, fact_i, yes, no, RattleType, Valss, owns, types_at, plain, Ptr, block_ptr, ptr_val, nothing, opens, closes, u64, param, bounded, mut_vals, mut_Tells, uint_vals, uint_Tells, Stays, stay_dropped, stay_ref, walk_of, Goes-dropped, Goes-ref, after, proved, leaves, fm, seq_cst, found, finds, subs, not, Me, step, Allows, Place, BlockId, place, parts_if, seat_owns, block, Less, content, kept_of, tokens, ptr_and_marker, pair_typed, in_place, kept_shows, Types, eight, PairData, pair_told, pair_made}
 use mathlib.Core.Option as maybe
 use Rattle.counted_block.specs.contracts.share.Share as share
 use Rattle.counted_block.specs.contracts.share.MaybeShare as maybe_share
@@ -19,7 +19,7 @@ part_spec 𝓤 𝓛 𝓜 𝓡 wired S₀ W₀ V₀ K₀ Y₀ T₀ A₀ M₀ _ _ 
     let OwnRow : RattleType = share.the_row S W V K Y R A g h in let MaybeRow : RattleType = maybe_share.the_row S W V K Y R A g h in let Er : RattleType = remains.the_row S W V K Y R A g h in let SeatRow : RattleType = seat.the_row S W V in let self = plain (λ _. OwnRow) in let by_mut = plain (λ _. SeatRow) in let number = plain (λ _. u64) in
     let staying : Stays promise.signature.params promise.kept = (stay_dropped self no, (stay_ref (0 ∷ []) tt by_mut, (stay_dropped number yes, tt))) in
     proved 𝓛 promise staying claims 𝓜 𝓡 (Goes-dropped 𝓛 9 self no (λ κs x f. refl), (Goes-ref 𝓛 9 0 tt by_mut, (Goes-dropped 𝓛 9 number yes (λ κs x f. refl), tt))) (#self at_types) routine (code.unfolded 𝓤 H 𝓜 𝓡 wired types d dh dd dm dm')
-    (λ κs. ((λ w. ptr_and_marker w.at ∷ []), (mut_vals, (uint_vals w64, tt)))) (λ κs. ((λ w vs so. share_told S W V K Y R A g h w.at vs so.0), (mut_Tells (named 0) κs.0 SeatRow, (uint_Tells w64, tt)))) (λ κs qs bounds a gh are.
+    (λ κs. ((λ w. ptr_and_marker w.at ∷ []), (mut_vals, (uint_vals w64, tt)))) (λ κs. ((λ w vs so. pair_told w.at vs so.0), (mut_Tells (named 0) κs.0 SeatRow, (uint_Tells w64, tt)))) (λ κs qs bounds a gh are.
     let s : OwnRow.Denot = a.0 in let p : Ptr = s.at in let x : R.Denot = s.value in let k = h.dealloc_token s.heap in let z : BlockId = s.id in let w : ℕ = a.1.1.0 in
     let seat_block : ℕ = a.1.0.ref_ptr.0 in let seat_offset : ℕ = a.1.0.ref_ptr.1 in let t : SeatRow.Denot = a.1.0.now in let id : ℕ = t.id in let v : Me (Place S.Denot W.Denot) V.Denot = t.me in let f : ℕ → ℕ = λ n. (n + (2 ^ 64 - w)) % 2 ^ 64 in let then : ℕ → Me (Place S.Denot W.Denot) V.Denot → Type 0 = m'.then (step 2 0 w 0 maybe.none) v in let counts = m.counts (step 2 0 w 0 maybe.none) in let e : ℕ = z.offset + 0 in
     let Beside : Fml = tokens 8 κs.1 qs.1 in
@@ -43,7 +43,7 @@ part_spec 𝓤 𝓛 𝓜 𝓡 wired S₀ W₀ V₀ K₀ Y₀ T₀ A₀ M₀ _ _ 
     -- [what the step gives; the seat's fields, its cell and three more; what is kept; the value; the others]
     fsplit ! $ move ! (0 ∷ 7 ∷ 8 ∷ []) $ fjoin3 ! $ nothing ! $ fpack ! (place z ≡ place z) (λ _. ftrue) refl $ fjoin ! $
     let r : Val = vstruct (vcons (vint w64 n) (vcons (ptr_and_marker (place z)) vnil)) in let mh : MaybeRow.Denot = record { at = place z; marker = s.marker; id = z; key = s.key; value = x; heap = s.heap; there = not (counts n) } in
-    use0 𝓛 (‵ ((MaybeShareData S W V K Y R A g h).own_val (place z, (tt, tt)) (ptr_and_marker (place z) ∷ []))) (maybe_share_made S W V K Y R A g h 𝓛 (place z)) $ fjoin ! $
+    use0 𝓛 (‵ (PairData.own_val (place z, (tt, tt)) (ptr_and_marker (place z) ∷ []))) (pair_made 𝓛 (place z)) $ fjoin ! $
     nothing ! $ flt_i ! n (2 ^ 64) fits $ feq_i ! (List Val) (vint w64 n ∷ []) (vint w64 n ∷ []) refl $ fjoin ! $ move ! (0 ∷ 2 ∷ 1 ∷ []) $ fjoin3 ! $ feq_i ! (List Val) (r ∷ []) (r ∷ []) refl $ fjoin ! $
     fpack ! (Valss (u64 ∷ MaybeRow ∷ [])) (λ uss. fsep (feq (List Val) (r ∷ []) (vstruct (of_list (uss.0 ++ (uss.1.0 ++ []))) ∷ [])) (owns (u64 ∷ MaybeRow ∷ []) (n, (mh, tt)) uss)) (vint w64 n ∷ [], (ptr_and_marker (place z) ∷ [], tt)) $
     move ! (1 ∷ []) $ fpick ! (λ v'. fsplit ! $ fpick ! (λ so. drop ! $ let t' : SeatRow.Denot = record { marker = t.marker; block = z; id = id; me = v' } in

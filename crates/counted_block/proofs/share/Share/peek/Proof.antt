@@ -1,5 +1,5 @@
 -- `peek` is a load that tells nothing.
-use Rattle.counted_block.proofs.Names.{ℕ, ◌+◌, ◌^◌, List, [], ◌∷◌, sym, refl, lit<, w64, named, dcons, dnil, Val, vint, vptr, inst_fn, SProp, Lft, Fml, ftrue, flft, fhide, finv, ‵, raw, ◌⊛◌, mean, at_ret, ◌$◌, ◌∵◌, !, qed, by, move, keep, drop, split, join, fsplit, fjoin, fpick, use1, use2, via, rewrite, feq_i, flt_i, stop, hop, fld, addr, lit, of_opd, no_more, and_then, first, blocks, exec, Calls-last, returns, enter, alloc_all, pass_all, free_all, look_at, get, through, sets, lands_last, env, agg, sub, whole, look_in, tables, fact, yes, RattleType, owns, types_at, plain, Ptr, block_ptr, nothing, peeks, looks, shuts, unhide, Is, shows, cell_at, hidden_shr, param, bounded, RefOf, shr_vals, shr_Tells, shr_bor-open, obor_close, tokens_halve, Stays, stay_dropped, walk_of, Goes-dropped, after, proved, leaves, fm, seq_cst, found, finds, loads, BlockId, stay, block, content, share_shown, tokens, ShareData, share_opens, kept_inv, Types, seven, share_lent, share_at}
+use Rattle.counted_block.proofs.Names.{ℕ, ◌+◌, ◌^◌, List, [], ◌∷◌, sym, refl, lit<, w64, named, dcons, dnil, Val, vint, vptr, inst_fn, SProp, Lft, Fml, ftrue, flft, fhide, finv, ‵, raw, ◌⊛◌, mean, at_ret, ◌$◌, ◌∵◌, !, qed, by, move, keep, drop, split, join, fsplit, fjoin, fpick, use1, use2, via, rewrite, feq_i, flt_i, stop, hop, fld, addr, lit, of_opd, no_more, and_then, first, blocks, exec, Calls-last, returns, enter, alloc_all, pass_all, free_all, look_at, get, through, sets, lands_last, env, agg, sub, whole, look_in, tables, fact, yes, RattleType, owns, types_at, plain, Ptr, block_ptr, nothing, peeks, looks, shuts, unhide, Is, shows, cell_at, hidden_shr, param, bounded, RefOf, shr_vals, shr_Tells, shr_bor-open, obor_close, tokens_halve, Stays, stay_dropped, walk_of, Goes-dropped, after, proved, leaves, fm, seq_cst, found, finds, loads, BlockId, stay, block, content, share_shown, tokens, ShareData, share_opens, kept_inv, Types, seven, share_lent, pair_at}
 use Rattle.counted_block.specs.contracts.share.Share as share
 use Rattle.counted_block.specs.contracts.seat.Seat as seat
 use Rattle.counted_block.proofs.Entering as entering
@@ -28,7 +28,7 @@ peek_spec 𝓤 𝓛 𝓜 𝓡 wired S₀ W₀ V₀ K₀ Y₀ T₀ A₀ _ _ _ _ _
     split ! $ move ! (1 ∷ []) $ unhide ! $ fsplit ! $ fpick ! (λ at. drop ! $ fsplit ! $ fsplit ! $ move ! (2 ∷ []) $ fsplit ! $ use1 𝓛 (‵ (finv J)) (kept_inv S W V.coded.code holds g.out P z 𝓛) $
     move ! (1 ∷ []) $ drop ! $ move ! (1 ∷ []) $ drop ! $ move ! (2 ∷ 3 ∷ 1 ∷ []) $
     looks ! tt D (share_opens S W V K Y R A g h 𝓛) (p, (tt, tt)) self_block self_offset (λ q vs. move ! (1 ∷ []) $ peeks ! D (Is D) (shows 𝓛 D) (p, (tt, tt)) vs (λ is_so.
-    let ev = share_at S W V K Y R A g h p z at vs is_so in
+    let ev = pair_at p z at vs is_so in
     rewrite ! 1 (λ (ws : List Val). ‵ (cell_at q D.mir ws self_block self_offset)) ev refl $ first ! $ blocks ! $
     sets ! (addr ! (through ! refl (fld ! refl (hop ! (look_in ! 1 (sub ! 0 refl (whole !))) (fld ! refl (stop !)))))) refl (tt, tt) $
     rewrite ! 1 (λ (ws : List Val). ‵ (cell_at q D.mir ws self_block self_offset)) (sym ev) refl $ move ! (1 ∷ 0 ∷ 2 ∷ []) $ shuts ! tt D q (p, (tt, tt)) vs self_block self_offset $

@@ -1,5 +1,5 @@
 -- `split_seat` cuts a view in two beside the machine.
-use Rattle.counted_block.proofs.Names.{◌≡◌, ℕ, List, [], ◌∷◌, sym, refl, named, dcons, dnil, Val, vptr, inst_fn, SProp, emp, Lft, Fml, ftrue, fex, flft, fhide, finv, ‵, raw, ◌⊛◌, given, later, await, ◌$◌, ◌∵◌, !, qed, by, move, keep, drop, split, split3, join, fsplit, fsplit3, fjoin, fjoin3, fpick, learn, use0, use1, use2, rewrite, feq_i, no_more, and_then, returns, enter, alloc_all, pass_all, free_all, look_at, get, sets, agg, tables, fact, fact_i, yes, RattleType, owns, types_at, plain, Ptr, nothing, opens, closes, unhide, hidden_shr, param, bounded, RefOf, shr_vals, shr_Tells, mut_vals, mut_Tells, Stays, stay_dropped, stay_ref, walk_of, Goes-dropped, Goes-ref, proved, leaves, Me, Splits, Place, BlockId, seat_owns, block, content, share_shown, tokens, marker_val, ShareData, SeatData, seat_made, kept_inv, Types, eight, share_lent}
+use Rattle.counted_block.proofs.Names.{◌≡◌, ℕ, List, [], ◌∷◌, sym, refl, named, dcons, dnil, Val, vptr, inst_fn, SProp, emp, Lft, Fml, ftrue, fex, flft, fhide, finv, ‵, raw, ◌⊛◌, given, later, await, ◌$◌, ◌∵◌, !, qed, by, move, keep, drop, split, split3, join, fsplit, fsplit3, fjoin, fjoin3, fpick, learn, use0, use1, use2, rewrite, feq_i, no_more, and_then, returns, enter, alloc_all, pass_all, free_all, look_at, get, sets, agg, tables, fact, fact_i, yes, RattleType, owns, types_at, plain, Ptr, nothing, opens, closes, unhide, hidden_shr, param, bounded, RefOf, shr_vals, shr_Tells, mut_vals, mut_Tells, Stays, stay_dropped, stay_ref, walk_of, Goes-dropped, Goes-ref, proved, leaves, Me, Splits, Place, BlockId, seat_owns, block, content, share_shown, tokens, marker_val, ShareData, kept_inv, Types, eight, share_lent, MarkerData, marker_made}
 use Rattle.counted_block.specs.contracts.share.Share as share
 use Rattle.counted_block.specs.contracts.seat.Seat as seat
 use Rattle.counted_block.proofs.Entering as entering
@@ -36,7 +36,7 @@ split_seat_spec 𝓤 𝓛 𝓜 𝓡 wired S₀ W₀ V₀ K₀ Y₀ T₀ A₀ M�
     let Told : Type 0 = (z ≡ t.block) × (id ≡ id) × (t'.me ≡ t'.me) × (z ≡ t.block) × (n.me ≡ n.me) in
     -- [the seat; the new seat; its fields, its cell and three more; the token; the others]
     move ! (2 ∷ 0 ∷ []) $ fjoin ! $ move ! (2 ∷ 0 ∷ 3 ∷ 4 ∷ 5 ∷ []) $ closes ! tt SeatRow t' bits seat_block seat_offset $ feq_i ! (List Val) (vptr seat_block seat_offset ∷ []) (vptr seat_block seat_offset ∷ []) refl $ fjoin3 ! $
-    nothing ! $ move ! (1 ∷ 0 ∷ []) $ fjoin ! $ nothing ! $ fjoin ! $ move ! (1 ∷ 4 ∷ []) $ join ! $ move ! (3 ∷ 0 ∷ []) $ join ! $ move ! (2 ∷ []) $ use0 𝓛 (‵ ((SeatData S W V).own_val (tt, tt) (marker_val ∷ []))) (seat_made S W V 𝓛) $ fjoin ! $
+    nothing ! $ move ! (1 ∷ 0 ∷ []) $ fjoin ! $ nothing ! $ fjoin ! $ move ! (1 ∷ 4 ∷ []) $ join ! $ move ! (3 ∷ 0 ∷ []) $ join ! $ move ! (2 ∷ []) $ use0 𝓛 (‵ (MarkerData.own_val (tt, tt) (marker_val ∷ []))) (marker_made 𝓛) $ fjoin ! $
     use0 𝓛 (raw (fact 𝓤 Told)) (fact_i 𝓤 Told (emp 𝓤) (sym same, refl, refl, sym same, refl)) $
     sets ! (agg ! (no_more !)) refl (tt, tt) $ sets ! (agg ! (and_then ! (get ! refl) (no_more !))) refl (tt, (tt, tt)) $
     returns ! (look_at ! 0 refl) $ free_all ! refl $ keep ! (2 ∷ 3 ∷ 1 ∷ 0 ∷ []) $ by ! (leaves 𝓛 promise staying claims start marker_val n (tt, (t', tt)) (tt, (tt, tt))))))))))

@@ -1,5 +1,5 @@
 -- `swap_second` reads and writes the slot 1, by the borrow that the seat has.
-use Rattle.counted_block.proofs.Names.{◌≡◌, ℕ, ◌+◌, List, [], ◌∷◌, sym, refl, subst, dcons, dnil, Val, vptr, inst_fn, SProp, ent, emp, apply∗, all, all_e, Lft, Fml, ftrue, flft, sem, ‵, raw, ◌⊛◌, given, at_ret, ◌$◌, ◌∵◌, !, qed, by, move, keep, drop, split, split3, join, fsplit, fsplit3, fjoin, fjoin3, fpick, learn, use0, use1, use2, rewrite, feq_i, stop, fld, addr, load, of_opd, first, blocks, exec, returns, enter, alloc_all, pass_all, free_all, look_at, get, through, sets, sets_last, env, sub, whole, look_in, tables, yes, no, RattleType, owns, types_at, plain, Ptr, nothing, param, bounded, Stays, stay_dropped, walk_of, Goes-dropped, fact, fact_i, Is, shows, cell_at, peeks, RefOf, opens, closes, stay_ref, Goes-ref, unhide, hidden_shr, looks, shuts, shr_bor-open, obor_close, tokens_halve, WpFn, assigns, look_raw, store_raw, fhide, hop, tail, El, lawful, Good, one, opens_one, proved_at, leaves, Me, rest, Second, Place, at_second, BlockId, life, tracked, seat_owns, share_shown, tokens, ShareData, share_opens, holding, Swapped, Types, seven, share_lent, share_at}
+use Rattle.counted_block.proofs.Names.{◌≡◌, ℕ, ◌+◌, List, [], ◌∷◌, sym, refl, subst, dcons, dnil, Val, vptr, inst_fn, SProp, ent, emp, apply∗, all, all_e, Lft, Fml, ftrue, flft, sem, ‵, raw, ◌⊛◌, given, at_ret, ◌$◌, ◌∵◌, !, qed, by, move, keep, drop, split, split3, join, fsplit, fsplit3, fjoin, fjoin3, fpick, learn, use0, use1, use2, rewrite, feq_i, stop, fld, addr, load, of_opd, first, blocks, exec, returns, enter, alloc_all, pass_all, free_all, look_at, get, through, sets, sets_last, env, sub, whole, look_in, tables, yes, no, RattleType, owns, types_at, plain, Ptr, nothing, param, bounded, Stays, stay_dropped, walk_of, Goes-dropped, fact, fact_i, Is, shows, cell_at, peeks, RefOf, opens, closes, stay_ref, Goes-ref, unhide, hidden_shr, looks, shuts, shr_bor-open, obor_close, tokens_halve, WpFn, assigns, look_raw, store_raw, fhide, hop, tail, El, lawful, Good, one, opens_one, proved_at, leaves, Me, rest, Second, Place, at_second, BlockId, life, tracked, seat_owns, share_shown, tokens, ShareData, share_opens, holding, Swapped, Types, seven, share_lent, pair_at}
 use Rattle.counted_block.specs.contracts.share.Share as share
 use Rattle.counted_block.specs.contracts.seat.Seat as seat
 use Rattle.counted_block.specs.contracts.share.Share.swap_second.{ended, clauses}
@@ -30,7 +30,7 @@ swap_second_spec 𝓤 𝓛 𝓜 𝓡 wired S₀ W₀ V₀ K₀ Y₀ T₀ A₀ _ 
     (share_lent S W V K Y R A g h 𝓛 κ s self_block self_offset) $
     split ! $ move ! (1 ∷ []) $ unhide ! $ fsplit ! $ fpick ! (λ at. drop ! $ fsplit ! $ fsplit ! $ move ! (1 ∷ []) $ drop ! $ move ! (1 ∷ []) $ drop ! $ move ! (1 ∷ 2 ∷ []) $
     looks ! tt D (share_opens S W V K Y R A g h 𝓛) (p, (tt, tt)) self_block self_offset (λ q vs. move ! (1 ∷ []) $ peeks ! D (Is D) (shows 𝓛 D) (p, (tt, tt)) vs (λ is_so.
-    let ev = share_at S W V K Y R A g h p z at vs is_so in
+    let ev = pair_at p z at vs is_so in
     rewrite ! 1 (λ (ws : List Val). ‵ (cell_at q D.mir ws self_block self_offset)) ev refl $ first ! $ blocks ! $
     sets ! (addr ! (through ! refl (fld ! refl (hop ! (look_in ! 1 (sub ! 0 refl (whole !))) (fld ! refl (stop !)))))) refl (tt, tt) $
     rewrite ! 1 (λ (ws : List Val). ‵ (cell_at q D.mir ws self_block self_offset)) (sym ev) refl $ move ! (1 ∷ 0 ∷ 2 ∷ []) $ shuts ! tt D q (p, (tt, tt)) vs self_block self_offset $

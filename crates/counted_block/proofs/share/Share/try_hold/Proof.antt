@@ -1,5 +1,5 @@
 -- `try_hold` is one step on the holds of the block.
-use Rattle.counted_block.proofs.Names.{◌≡◌, ℕ, ◌+◌, ◌^◌, eqb, List, [], ◌∷◌, ◌++◌, sym, refl, lit<, w64, named, dcons, dnil, Val, vint, vptr, vstruct, vcons, vnil, of_list, inst_fn, SProp, emp, Lft, Fml, ftrue, fsep, feq, flft, fhide, finv, ‵, raw, ◌⊛◌, mean, at_ret, ◌$◌, ◌∵◌, !, qed, by, move, keep, drop, split, join, fsplit, fjoin, fjoin3, fpick, fpack, use0, use1, use2, via, rewrite, feq_i, flt_i, stop, hop, fld, addr, load, lit, of_opd, no_more, and_then, first, blocks, exec, Calls-last, returns, enter, alloc_all, pass_all, free_all, look_at, get, through, sets, lands_last, env, agg, sub, whole, look_in, tables, fact, fact_i, yes, RattleType, Valss, owns, types_at, plain, Ptr, block_ptr, nothing, peeks, looks, shuts, unhide, Is, shows, cell_at, hidden_shr, u64, param, bounded, RefOf, shr_vals, shr_Tells, shr_bor-open, obor_close, tokens_halve, Stays, stay_dropped, walk_of, Goes-dropped, after, proved, leaves, fm, seq_cst, found, finds, not, BlockId, stay, place, block, content, kept_of, share_shown, tokens, ptr_and_marker, ShareData, share_opens, MaybeHoldData, maybe_hold_made, kept_shows, bumps, Types, seven, share_lent, share_at}
+use Rattle.counted_block.proofs.Names.{◌≡◌, ℕ, ◌+◌, ◌^◌, eqb, List, [], ◌∷◌, ◌++◌, sym, refl, lit<, w64, named, dcons, dnil, Val, vint, vptr, vstruct, vcons, vnil, of_list, inst_fn, SProp, emp, Lft, Fml, ftrue, fsep, feq, flft, fhide, finv, ‵, raw, ◌⊛◌, mean, at_ret, ◌$◌, ◌∵◌, !, qed, by, move, keep, drop, split, join, fsplit, fjoin, fjoin3, fpick, fpack, use0, use1, use2, via, rewrite, feq_i, flt_i, stop, hop, fld, addr, load, lit, of_opd, no_more, and_then, first, blocks, exec, Calls-last, returns, enter, alloc_all, pass_all, free_all, look_at, get, through, sets, lands_last, env, agg, sub, whole, look_in, tables, fact, fact_i, yes, RattleType, Valss, owns, types_at, plain, Ptr, block_ptr, nothing, peeks, looks, shuts, unhide, Is, shows, cell_at, hidden_shr, u64, param, bounded, RefOf, shr_vals, shr_Tells, shr_bor-open, obor_close, tokens_halve, Stays, stay_dropped, walk_of, Goes-dropped, after, proved, leaves, fm, seq_cst, found, finds, not, BlockId, stay, place, block, content, kept_of, share_shown, tokens, ptr_and_marker, ShareData, share_opens, kept_shows, bumps, Types, seven, share_lent, PairData, pair_at, pair_made}
 use Rattle.counted_block.specs.contracts.share.Share as share
 use Rattle.counted_block.specs.contracts.hold.MaybeHold as maybe_hold
 use Rattle.counted_block.proofs.Holds as holding
@@ -30,7 +30,7 @@ try_hold_spec 𝓤 𝓛 𝓜 𝓡 wired S₀ W₀ V₀ K₀ Y₀ T₀ A₀ _ _ _
     -- [the invariant; what is kept; the value; the two tokens, lent; the fields; the token; the others]
     move ! (3 ∷ []) $ drop ! $ move ! (4 ∷ 5 ∷ 3 ∷ []) $
     looks ! tt D (share_opens S W V K Y R A g h 𝓛) (p, (tt, tt)) self_block self_offset (λ q vs. move ! (1 ∷ []) $ peeks ! D (Is D) (shows 𝓛 D) (p, (tt, tt)) vs (λ is_so.
-    let ev = share_at S W V K Y R A g h p z at vs is_so in
+    let ev = pair_at p z at vs is_so in
     rewrite ! 1 (λ (ws : List Val). ‵ (cell_at q D.mir ws self_block self_offset)) ev refl $ first ! $ blocks ! $
     sets ! (addr ! (through ! refl (fld ! refl (hop ! (look_in ! 1 (sub ! 0 refl (whole !))) (fld ! refl (stop !)))))) refl (tt, tt) $
     rewrite ! 1 (λ (ws : List Val). ‵ (cell_at q D.mir ws self_block self_offset)) (sym ev) refl $ move ! (1 ∷ 0 ∷ 2 ∷ []) $ shuts ! tt D q (p, (tt, tt)) vs self_block self_offset $
@@ -44,7 +44,7 @@ try_hold_spec 𝓤 𝓛 𝓜 𝓡 wired S₀ W₀ V₀ K₀ Y₀ T₀ A₀ _ _ _
     fsplit ! $ move ! (2 ∷ 0 ∷ []) $ obor_close ! tt $ drop ! $
     -- [the token; the hold, if there is one; the fields; what is kept; the value; the others]
     move ! (2 ∷ 0 ∷ []) $ looks ! tt D (share_opens S W V K Y R A g h 𝓛) (p, (tt, tt)) self_block self_offset (λ q₂ vs₂. move ! (1 ∷ []) $ peeks ! D (Is D) (shows 𝓛 D) (p, (tt, tt)) vs₂ (λ is_so₂.
-    let ev₂ = share_at S W V K Y R A g h p z at vs₂ is_so₂ in
+    let ev₂ = pair_at p z at vs₂ is_so₂ in
     rewrite ! 1 (λ (ws : List Val). ‵ (cell_at q₂ D.mir ws self_block self_offset)) ev₂ refl $
     sets ! (of_opd ! (load ! (through ! refl (fld ! refl (stop !))) (look_in ! 1 (sub ! 0 refl (whole !))))) refl (tt, tt) $
     rewrite ! 1 (λ (ws : List Val). ‵ (cell_at q₂ D.mir ws self_block self_offset)) (sym ev₂) refl $ move ! (1 ∷ 0 ∷ 2 ∷ []) $ shuts ! tt D q₂ (p, (tt, tt)) vs₂ self_block self_offset $
@@ -52,7 +52,7 @@ try_hold_spec 𝓤 𝓛 𝓜 𝓡 wired S₀ W₀ V₀ K₀ Y₀ T₀ A₀ _ _ _
     sets ! (agg ! (and_then ! (get ! refl) (and_then ! (get ! refl) (no_more !)))) refl (tt, (record { fits = fits }, ((tt, (tt, tt)), tt))) $
     move ! (2 ∷ 3 ∷ 4 ∷ []) $ fjoin3 ! $ nothing ! $ fpack ! (place z ≡ place z) (λ _. ftrue) refl $ fjoin ! $
     let u : Val = vstruct (vcons (vint w64 n) (vcons (ptr_and_marker (place z)) vnil)) in let full = eqb n 9223372036854775807 in let mh : MaybeRow.Denot = record { at = place z; marker = s.marker; id = z; key = s.key; value = x; heap = s.heap; there = not full } in
-    use0 𝓛 (‵ ((MaybeHoldData S W V K Y R A g h).own_val (place z, (tt, tt)) (ptr_and_marker (place z) ∷ []))) (maybe_hold_made S W V K Y R A g h 𝓛 (place z)) $ fjoin ! $
+    use0 𝓛 (‵ (PairData.own_val (place z, (tt, tt)) (ptr_and_marker (place z) ∷ []))) (pair_made 𝓛 (place z)) $ fjoin ! $
     nothing ! $ flt_i ! n (2 ^ 64) fits $ feq_i ! (List Val) (vint w64 n ∷ []) (vint w64 n ∷ []) refl $ fjoin ! $ move ! (0 ∷ 2 ∷ 1 ∷ []) $ fjoin3 ! $ feq_i ! (List Val) (u ∷ []) (u ∷ []) refl $ fjoin ! $
     fpack ! (Valss (u64 ∷ MaybeRow ∷ [])) (λ uss. fsep (feq (List Val) (u ∷ []) (vstruct (of_list (uss.0 ++ (uss.1.0 ++ []))) ∷ [])) (owns (u64 ∷ MaybeRow ∷ []) (n, (mh, tt)) uss)) (vint w64 n ∷ [], (ptr_and_marker (place z) ∷ [], tt)) $
     -- [the result; the token; the fields; the others]
