@@ -94,7 +94,9 @@ module _ (S W V K Y T' A : RattleType) (g : Ghosts Y.Denot S.Denot W.Denot V.Den
     ledger_lent κ s b o = id⊢ 𝓤 _
 
     pub share_opens : Opens 𝓛 ShareData
-    share_opens = (Struct-Copied 𝓛 (shape (share.the_type S W V K Y T' A g h)) (refl, (refl, tt)) (RawPtr-copy.copied M 𝓤 𝓛, ((field_copy (phantom.the_type (Tuple (V ∷ K ∷ Y ∷ A ∷ []))) tt).copied M 𝓤 𝓛, tt))).opens
+    share_opens = (Struct-Copied 𝓛 (shape (share.the_type S W V K Y T' A g h)) (refl, (refl, tt))
+        (RawPtr-copy.copied M 𝓤 𝓛, ((field_copy (phantom.the_type (Tuple (V ∷ K ∷ Y ∷ A ∷ []))) tt).copied M 𝓤 𝓛, tt))).opens
 
     pub hold_opens : Opens 𝓛 HoldData
-    hold_opens = (Struct-Copied 𝓛 (shape (hold.the_type S W V K Y T' A g h)) (refl, (refl, tt)) (RawPtr-copy.copied M 𝓤 𝓛, ((field_copy (phantom.the_type (Tuple (V ∷ K ∷ Y ∷ A ∷ []))) tt).copied M 𝓤 𝓛, tt))).opens
+    hold_opens = (Struct-Copied 𝓛 (shape (hold.the_type S W V K Y T' A g h)) (refl, (refl, tt))
+        (RawPtr-copy.copied M 𝓤 𝓛, ((field_copy (phantom.the_type (Tuple (V ∷ K ∷ Y ∷ A ∷ []))) tt).copied M 𝓤 𝓛, tt))).opens

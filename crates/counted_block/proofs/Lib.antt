@@ -17,3 +17,4 @@ pub mod Tokens
 pub mod Signs
 pub mod Names
 pub mod Fields
+pub mod Fetching
