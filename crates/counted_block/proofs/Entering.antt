@@ -11,8 +11,8 @@ use base.Stored.{Coded}
 use base.Logic.{SProp, wand, ex, all, guard, upd, all_e, upd_i, via, mono_r}
 use base.Fml.{Share, Fml, ftrue, fsep, fex, flft, fdead}
 use types.Logic.{Logic}
-use types.Kit.{‵, raw, ◌⊛◌, some, given, ◌$◌, ◌∵◌, !, qed, by, move, drop, split, fsplit, fsplit3, fjoin, fjoin3, fpick, fpack, pick, learn, show, check, frame, assume, suffices,
-    settle, done, use1, use2, rewrite}
+use types.Kit.{‵, raw, ◌⊛◌, some, given, ◌$◌, ◌∵◌, !, qed, by, move, drop, split, fsplit, fsplit3, fjoin, fjoin3, fpick, fpack, pick, learn, show, check, frame, assume, suffices}
+use types.Kit.{settle, done, use1, use2, rewrite}
 use denote.RattleType.{RattleType}
 use denote.RawPtr.{block_ptr}
 use denote.Steps.{nothing}
@@ -42,6 +42,7 @@ module _ {M : Type 1} {𝓤 : Ura M} (𝓛 : Logic 𝓤) (R Q : RattleType) {V :
   𝓝 = signs 𝓛
 
   open 𝓝 use {⟦◌⟧, ◌⊢◌, ◌∗◌}
+
   abbrev S : Type 0
   S = Place R.Denot Q.Denot
 
@@ -60,9 +61,10 @@ module _ {M : Type 1} {𝓤 : Ura M} (𝓛 : Logic 𝓤) (R Q : RattleType) {V :
 
     -- a look that tells nothing
     pub glances : A.inv J ∗ ⟦ token ⟧ ⊢ asks 𝓛 (block_ptr z.block (z.offset + 0)) (λ n. n) always (λ _. token)
-    glances = opened 𝓛 R Q cv holds out P z (λ n. n) (λ _. token) ⟦ token ⟧ (counting.token_dead 𝓛 z.tally q)
-        (λ s h so small. let Z : Pr = ex 𝓤 (Next 𝓛 R Q cv holds out P z (λ n. n) (λ _. token) s h) in qed 𝓛 (‵ (body 𝓛 R Q cv holds out P z (word_of s) h s) ∷ ‵ token ∷
-        []) ∵ suffices ! _ (upd_i 𝓤 Z) $ show ! (Next 𝓛 R Q cv holds out P z (λ n. n) (λ _. token) s h) s $ check ! (set_own s.words, so.0, so.2) $ done !)
+    glances = opened 𝓛 R Q cv holds out P z (λ n. n) (λ _. token) ⟦ token ⟧ (counting.token_dead 𝓛 z.tally q) (λ s h so small. let Z : Pr = ex 𝓤 (Next 𝓛 R Q cv holds out P z
+        (λ n. n) (λ _. token) s h) in
+        qed 𝓛 (‵ (body 𝓛 R Q cv holds out P z (word_of s) h s) ∷ ‵ token ∷ []) ∵ suffices ! _ (upd_i 𝓤 Z) $ show ! (Next 𝓛 R Q cv holds out P z (λ n. n) (λ _. token) s h) s $
+        check ! (set_own s.words, so.0, so.2) $ done !)
 
     module _ (then : ℕ → V → Type 0) (asked : Enters holds 2 0 then) where
       abbrev pub seated : ℕ → ℕ × V → Fml
@@ -75,17 +77,17 @@ module _ {M : Type 1} {𝓤 : Ura M} (𝓛 : Logic 𝓤) (R Q : RattleType) {V :
       pub enters : A.inv J ∗ ⟦ token ⟧ ⊢ asks 𝓛 (block_ptr z.block (z.offset + 0)) (λ n. n) always entered
       enters = opened 𝓛 R Q cv holds out P z (λ n. n) entered ⟦ token ⟧ (counting.token_dead 𝓛 z.tally q) (λ s h so small. let n : ℕ = word_of s in let r = asked s so.0 so.2 small in
           let u : V = r.0 in let t : State S V = record { words = s.words; homes = s.homes; views = s.views ++ u ∷ [] } in
-          let Z : Pr = ex 𝓤 (Next 𝓛 R Q cv holds out P z (λ n. n) entered s h) in qed 𝓛 (‵ (body 𝓛 R Q cv holds out P z n h s) ∷ ‵ token ∷ []) ∵ fsplit3 ! $
-          move ! (2 ∷ []) $ use1 𝓛 (raw (upd 𝓤 (ex 𝓤 (Joined 𝓛 cv γ 0 s.views u)))) (joins 𝓛 cv γ s.views 0 u) $
-          settle 𝓛 Z (some (λ (j : ℕ). ‵ (roster cv.code γ 0 t.views) ⊛ ‵ (seen cv.code γ j three_quarters u))) $ suffices ! _ (upd_i 𝓤 Z) $ pick ! (λ j. split ! $
+          let Z : Pr = ex 𝓤 (Next 𝓛 R Q cv holds out P z (λ n. n) entered s h) in qed 𝓛 (‵ (body 𝓛 R Q cv holds out P z n h s) ∷ ‵ token ∷ []) ∵ fsplit3 ! $ move ! (2 ∷ []) $
+          use1 𝓛 (raw (upd 𝓤 (ex 𝓤 (Joined 𝓛 cv γ 0 s.views u)))) (joins 𝓛 cv γ s.views 0 u) $ settle 𝓛 Z (some (λ (j : ℕ). ‵ (roster cv.code γ 0 t.views) ⊛
+          ‵ (seen cv.code γ j three_quarters u))) $ suffices ! _ (upd_i 𝓤 Z) $ pick ! (λ j. split ! $
           -- [the roster; the view; the counts; the slots; the token]
           show ! (Next 𝓛 R Q cv holds out P z (λ n. n) entered s h) t $ check ! (set_own s.words, r.1, so.2) $ move ! (3 ∷ 0 ∷ []) $ fjoin ! $ move ! (2 ∷ 0 ∷ []) $ fjoin ! $ frame ! $
           nothing ! $ move ! (1 ∷ 0 ∷ []) $ fjoin ! $ nothing ! $ fpack ! (then n u) (λ _. ftrue) r.2 $ fjoin ! $ fpack ! (ℕ × V) (seated n) (j, u) $ move ! (1 ∷ 0 ∷ []) $ fjoin ! $
           done !))
 
   -- the invariant is opened beside the machine, whether the block stands or is gone; only the views change
-  module _ (K after : Fml) (law : (s : State S V) → word_of s < 18446744073709551616 → ⟦ Views s ⟧ ∗ ⟦ K ⟧
-      ⊢ upd 𝓤 (ex 𝓤 (λ (t : State S V). guard 𝓤 ((t.words ≡ s.words) × (t.homes ≡ s.homes)) (⟦ Views t ⟧ ∗ ⟦ after ⟧)))) where
+  module _ (K after : Fml) (law : (s : State S V) → word_of s < 18446744073709551616 → ⟦ Views s ⟧ ∗ ⟦ K ⟧ ⊢ upd 𝓤 (ex 𝓤 (λ (t : State S V). guard 𝓤 ((t.words ≡ s.words) ×
+      (t.homes ≡ s.homes)) (⟦ Views t ⟧ ∗ ⟦ after ⟧)))) where
     abbrev After : State S V → State S V → Pr
     After s t = guard 𝓤 ((t.words ≡ s.words) × (t.homes ≡ s.homes)) (⟦ Views t ⟧ ∗ ⟦ after ⟧)
 
@@ -107,9 +109,9 @@ module _ {M : Type 1} {𝓤 : Ura M} (𝓛 : Logic 𝓤) (R Q : RattleType) {V :
 
     once_gone : (s : State S V) → ⟦ ghostly R Q cv.code holds out P z s ⟧ ∗ ⟦ K ⟧ ∗ A.dead (life z) ∗ A.dead (stay z) ⊢ upd 𝓤 Z
     once_gone s = let n : ℕ = word_of s in qed 𝓛 (‵ (ghostly R Q cv.code holds out P z s) ∷ ‵ K ∷ ‵ (fdead (life z)) ∷ ‵ (fdead (stay z)) ∷ []) ∵ fsplit ! $
-        fpick ! (λ small. drop ! $ use2 𝓛 (raw (upd 𝓤 (ex 𝓤 (After s)))) (law s small) $
-        settle 𝓛 Z (some (λ (t : State S V). given ((t.words ≡ s.words) × (t.homes ≡ s.homes)) (‵ (Views t) ⊛ ‵ after))) $ suffices ! _ (upd_i 𝓤 Z) $
-        pick ! (λ t. learn ! (λ as_before. split ! $ let same : n ≡ word_of t = ap (λ (ws : List ℕ). get_or ws 0 0) (sym as_before.0) in nothing ! $
+        fpick ! (λ small. drop ! $
+        use2 𝓛 (raw (upd 𝓤 (ex 𝓤 (After s)))) (law s small) $ settle 𝓛 Z (some (λ (t : State S V). given ((t.words ≡ s.words) × (t.homes ≡ s.homes)) (‵ (Views t) ⊛ ‵ after))) $
+        suffices ! _ (upd_i 𝓤 Z) $ pick ! (λ t. learn ! (λ as_before. split ! $ let same : n ≡ word_of t = ap (λ (ws : List ℕ). get_or ws 0 0) (sym as_before.0) in nothing ! $
         fpack ! (word_of t < 18446744073709551616) (λ _. ftrue) (subst (λ (m : ℕ). m < 18446744073709551616) same small) $ fjoin ! $ fpack ! (State S V) (ghostly R Q cv.code holds out P z) t $
         move ! (2 ∷ 3 ∷ []) $ fjoin ! $ move ! (0 ∷ 1 ∷ []) $ fjoin ! $ fpack ! Bool (stands R Q cv.code holds out P z) false $ done !)))
 
@@ -119,8 +121,8 @@ module _ {M : Type 1} {𝓤 : Ura M} (𝓛 : Logic 𝓤) (R Q : RattleType) {V :
         move ! (2 ∷ 3 ∷ 0 ∷ 1 ∷ []) $ by ! (once_gone s))
 
     quietly : A.inv J ∗ ⟦ K ⟧ ⊢ H.⇛ ⟦ after ⟧
-    quietly = via 𝓤 (A.inv J ∗ wand 𝓤 ⟦ J ⟧ (upd 𝓤 Z)) (mono_r 𝓤 (A.inv J) (qed 𝓛 (‵ K ∷ []) ∵ assume ! (‵ J) $
-        fpick ! (λ y. by ! (either_way y)))) (𝓛.invs.inv_acc J ⟦ after ⟧)
+    quietly = via 𝓤 (A.inv J ∗ wand 𝓤 ⟦ J ⟧ (upd 𝓤 Z)) (mono_r 𝓤 (A.inv J) (qed 𝓛 (‵ K ∷ []) ∵ assume ! (‵ J) $ fpick ! (λ y. by ! (either_way y)))) (𝓛.invs.inv_acc J
+        ⟦ after ⟧)
 
   module _ (id : ℕ) (me : Me S V) where
     abbrev Mine : Fml
@@ -130,14 +132,14 @@ module _ {M : Type 1} {𝓤 : Ura M} (𝓛 : Logic 𝓤) (R Q : RattleType) {V :
       abbrev pub noted : ℕ × V → Fml
       noted x = fsep (fact (then x.0 (x.1, me.1))) (seat_owns R Q z cv.code id (x.1, me.1))
 
-      note_law : (s : State S V) → word_of s < 18446744073709551616 → ⟦ Views s ⟧ ∗ ⟦ Mine ⟧
-          ⊢ upd 𝓤 (ex 𝓤 (λ (t : State S V). guard 𝓤 ((t.words ≡ s.words) × (t.homes ≡ s.homes)) (⟦ Views t ⟧ ∗ ⟦ fex (ℕ × V) noted ⟧)))
+      note_law : (s : State S V) → word_of s < 18446744073709551616 → ⟦ Views s ⟧ ∗ ⟦ Mine ⟧ ⊢ upd 𝓤 (ex 𝓤 (λ (t : State S V). guard 𝓤 ((t.words ≡ s.words) ×
+          (t.homes ≡ s.homes)) (⟦ Views t ⟧ ∗ ⟦ fex (ℕ × V) noted ⟧)))
       note_law s small = let n : ℕ = word_of s in let F : State S V → Pr = λ t. guard 𝓤 ((t.words ≡ s.words) × (t.homes ≡ s.homes)) (⟦ Views t ⟧ ∗ ⟦ fex (ℕ × V) noted ⟧) in
-          let Z : Pr = ex 𝓤 F in qed 𝓛 (‵ (Views s) ∷ ‵ Mine ∷ []) ∵ fsplit ! $ move ! (1 ∷ []) $ fpick ! (λ so. drop ! $ move ! (1 ∷ []) $ fsplit ! $ move ! (2 ∷ 0 ∷ []) $
+          let Z : Pr = ex 𝓤 F in
+          qed 𝓛 (‵ (Views s) ∷ ‵ Mine ∷ []) ∵ fsplit ! $ move ! (1 ∷ []) $ fpick ! (λ so. drop ! $ move ! (1 ∷ []) $ fsplit ! $ move ! (2 ∷ 0 ∷ []) $
           use2 𝓛 (given (get_elem? s.views id ≡ maybe.some me.0) (raw (all 𝓤 (Moved 𝓛 cv γ 0 s.views id id)))) (moves 𝓛 cv γ s.views 0 id id me.0 (omega arith)) $
-          learn ! (λ at. let r = asked s so.0 so.2 at small in let u : V = r.0 in let t : State S V = stepped s 0 n id me.1 u keeps in
-          use1 𝓛 (raw (Moved 𝓛 cv γ 0 s.views id id u)) (all_e 𝓤 (Moved 𝓛 cv γ 0 s.views id id) u) $ settle 𝓛 Z (‵ (roster cv.code γ 0 t.views) ⊛
-          ‵ (seen cv.code γ id three_quarters u)) $ suffices ! _ (upd_i 𝓤 Z) $ split ! $
+          learn ! (λ at. let r = asked s so.0 so.2 at small in let u : V = r.0 in let t : State S V = stepped s 0 n id me.1 u keeps in use1 𝓛 (raw (Moved 𝓛 cv γ 0 s.views id id u))
+          (all_e 𝓤 (Moved 𝓛 cv γ 0 s.views id id) u) $ settle 𝓛 Z (‵ (roster cv.code γ 0 t.views) ⊛ ‵ (seen cv.code γ id three_quarters u)) $ suffices ! _ (upd_i 𝓤 Z) $ split ! $
           -- [the roster; the view; what the seat carries]
           show ! F t $ check ! (sym (set_own s.words), refl) $ nothing ! $ fpack ! (Fits holds t) (λ _. ftrue) (r.1, ap length (sym (set_own s.words)) ∙ so.1, so.2) $ move ! (1 ∷ 0 ∷ []) $
           fjoin ! $ frame ! $ fjoin ! $ nothing ! $ fpack ! (then n (u, me.1)) (λ _. ftrue) r.2 $ fjoin ! $ fpack ! (ℕ × V) noted (n, u) $ done !))
@@ -150,18 +152,18 @@ module _ {M : Type 1} {𝓤 : Ura M} (𝓛 : Logic 𝓤) (R Q : RattleType) {V :
       abbrev pub both : ℕ → Fml
       both j = fsep (seat_owns R Q z cv.code id (one, me.1)) (seat_owns R Q z cv.code j (two, []))
 
-      split_law : (s : State S V) → word_of s < 18446744073709551616 → ⟦ Views s ⟧ ∗ ⟦ Mine ⟧
-          ⊢ upd 𝓤 (ex 𝓤 (λ (t : State S V). guard 𝓤 ((t.words ≡ s.words) × (t.homes ≡ s.homes)) (⟦ Views t ⟧ ∗ ⟦ fex ℕ both ⟧)))
+      split_law : (s : State S V) → word_of s < 18446744073709551616 → ⟦ Views s ⟧ ∗ ⟦ Mine ⟧ ⊢ upd 𝓤 (ex 𝓤 (λ (t : State S V). guard 𝓤 ((t.words ≡ s.words) ×
+          (t.homes ≡ s.homes)) (⟦ Views t ⟧ ∗ ⟦ fex ℕ both ⟧)))
       split_law s small = let F : State S V → Pr = λ t. guard 𝓤 ((t.words ≡ s.words) × (t.homes ≡ s.homes)) (⟦ Views t ⟧ ∗ ⟦ fex ℕ both ⟧) in let Z : Pr = ex 𝓤 F in
-          let vs : List V = set s.views id one in let t : State S V = record { words = s.words; homes = s.homes; views = vs ++ two ∷ [] } in qed 𝓛 (‵ (Views s) ∷ ‵ Mine ∷ []) ∵
-          fsplit ! $ move ! (1 ∷ []) $ fpick ! (λ so. drop ! $ move ! (1 ∷ []) $ fsplit ! $ move ! (2 ∷ 0 ∷ []) $
+          let vs : List V = set s.views id one in let t : State S V = record { words = s.words; homes = s.homes; views = vs ++ two ∷ [] } in
+          qed 𝓛 (‵ (Views s) ∷ ‵ Mine ∷ []) ∵ fsplit ! $ move ! (1 ∷ []) $ fpick ! (λ so. drop ! $ move ! (1 ∷ []) $ fsplit ! $ move ! (2 ∷ 0 ∷ []) $
           use2 𝓛 (given (get_elem? s.views id ≡ maybe.some me.0) (raw (all 𝓤 (Moved 𝓛 cv γ 0 s.views id id)))) (moves 𝓛 cv γ s.views 0 id id me.0 (omega arith)) $
           learn ! (λ at. use1 𝓛 (raw (Moved 𝓛 cv γ 0 s.views id id one)) (all_e 𝓤 (Moved 𝓛 cv γ 0 s.views id id) one) $ settle 𝓛 Z (‵ (roster cv.code γ 0 vs) ⊛
           ‵ (seen cv.code γ id three_quarters one)) $ split ! $ use1 𝓛 (raw (upd 𝓤 (ex 𝓤 (Joined 𝓛 cv γ 0 vs two)))) (joins 𝓛 cv γ vs 0 two) $
           settle 𝓛 Z (some (λ (j : ℕ). ‵ (roster cv.code γ 0 t.views) ⊛ ‵ (seen cv.code γ j three_quarters two))) $ suffices ! _ (upd_i 𝓤 Z) $ pick ! (λ j. split ! $
           -- [the roster; the new view; the old; what the seat carries]
-          show ! F t $ check ! (refl, refl) $ nothing ! $ fpack ! (Fits holds t) (λ _. ftrue) (asked s so.0 at, so.1, so.2) $ move ! (1 ∷ 0 ∷ []) $ fjoin ! $ frame ! $ nothing ! $
-          move ! (1 ∷ 0 ∷ []) $ fjoin ! $ move ! (1 ∷ 2 ∷ []) $ fjoin ! $ fjoin ! $ fpack ! ℕ both j $ done !)))
+          show ! F t $ check ! (refl, refl) $ nothing ! $ fpack ! (Fits holds t) (λ _. ftrue) (asked s so.0 at, so.1, so.2) $ move ! (1 ∷ 0 ∷ []) $ fjoin ! $ frame ! $
+          nothing ! $ move ! (1 ∷ 0 ∷ []) $ fjoin ! $ move ! (1 ∷ 2 ∷ []) $ fjoin ! $ fjoin ! $ fpack ! ℕ both j $ done !)))
 
       -- a view is cut in two
       pub splits : A.inv J ∗ ⟦ Mine ⟧ ⊢ H.⇛ ⟦ fex ℕ both ⟧

@@ -9,8 +9,8 @@ use base.Stored.{Coded}
 use base.Logic.{SProp, ex, guard, never_e}
 use base.Fml.{Fml, ftrue, ffalse, fdead}
 use types.Logic.{Logic}
-use types.Kit.{‵, ◌⊛◌, some, given, later, ◌$◌, ◌∵◌, !, qed, by, move, keep, drop, split, fsplit, fsplit3, fjoin, fpick, pick, learn, show, check, use1, use2, use3, await,
-    updating, now, done}
+use types.Kit.{‵, ◌⊛◌, some, given, later, ◌$◌, ◌∵◌, !, qed, by, move, keep, drop, split, fsplit, fsplit3, fjoin, fpick, pick, learn, show, check, use1, use2, use3, await, now}
+use types.Kit.{updating, done}
 use types.Tokens.{lent_back, name_agree}
 use denote.RattleType.{RattleType}
 use denote.Memory.{part_at}
@@ -51,6 +51,7 @@ module _ {M : Type 1} {𝓤 : Ura M} (𝓛 : Logic 𝓤) (R Q T : RattleType) (t
   𝓝 = signs 𝓛
 
   open 𝓝 use {⟦◌⟧, ◌⊢◌, ◌∗◌}
+
   abbrev S : Type 0
   S = Place R.Denot Q.Denot
 
@@ -61,8 +62,8 @@ module _ {M : Type 1} {𝓤 : Ura M} (𝓛 : Logic 𝓤) (R Q T : RattleType) (t
   first_back maybe.none = qed 𝓛 (‵ (first_body R Q z) ∷ ‵ ftrue ∷ []) ∵ fpick ! (λ x. fsplit ! $ show ! (FirstHad maybe.none) x $
       check ! (λ u e. absurd (maybe.some-ne-none u (sym e))) $ keep ! (0 ∷ []) $ done !)
   first_back (maybe.some (First y)) = qed 𝓛 (‵ (first_body R Q z) ∷ ‵ (tracked R Q z 0 (First y)) ∷ []) ∵ fpick ! (λ x. fsplit ! $ move ! (2 ∷ []) $ fsplit ! $
-      move ! (0 ∷ 3 ∷ []) $ name_agree ! R.coded (λ same. show ! (FirstHad (maybe.some (First y))) x $ check ! (λ u e. ap First (sym same) ∙ maybe.some-injective (First y) u e) $
-      keep ! (3 ∷ []) $ done !))
+      move ! (0 ∷ 3 ∷ []) $ name_agree ! R.coded (λ same.
+      show ! (FirstHad (maybe.some (First y))) x $ check ! (λ u e. ap First (sym same) ∙ maybe.some-injective (First y) u e) $ keep ! (3 ∷ []) $ done !))
   first_back (maybe.some (Second y)) = qed 𝓛 (‵ (first_body R Q z) ∷ ‵ ffalse ∷ []) ∵ move ! (1 ∷ []) $ keep ! (0 ∷ []) $
       by ! (never_e 𝓤 (ex 𝓤 (FirstHad (maybe.some (Second y)))))
 
@@ -73,8 +74,8 @@ module _ {M : Type 1} {𝓤 : Ura M} (𝓛 : Logic 𝓤) (R Q T : RattleType) (t
   second_back maybe.none = qed 𝓛 (‵ (second_body R Q z) ∷ ‵ ftrue ∷ []) ∵ fpick ! (λ x. fsplit ! $ show ! (SecondHad maybe.none) x $
       check ! (λ u e. absurd (maybe.some-ne-none u (sym e))) $ keep ! (0 ∷ []) $ done !)
   second_back (maybe.some (Second y)) = qed 𝓛 (‵ (second_body R Q z) ∷ ‵ (tracked R Q z 1 (Second y)) ∷ []) ∵ fpick ! (λ x. fsplit ! $ move ! (2 ∷ []) $ fsplit ! $
-      move ! (0 ∷ 3 ∷ []) $ name_agree ! Q.coded (λ same. show ! (SecondHad (maybe.some (Second y))) x $ check ! (λ u e. ap Second (sym same) ∙ maybe.some-injective (Second y) u e) $
-      keep ! (3 ∷ []) $ done !))
+      move ! (0 ∷ 3 ∷ []) $ name_agree ! Q.coded (λ same.
+      show ! (SecondHad (maybe.some (Second y))) x $ check ! (λ u e. ap Second (sym same) ∙ maybe.some-injective (Second y) u e) $ keep ! (3 ∷ []) $ done !))
   second_back (maybe.some (First y)) = qed 𝓛 (‵ (second_body R Q z) ∷ ‵ ffalse ∷ []) ∵ move ! (1 ∷ []) $ keep ! (0 ∷ []) $
       by ! (never_e 𝓤 (ex 𝓤 (SecondHad (maybe.some (First y)))))
 
@@ -95,13 +96,12 @@ module _ {M : Type 1} {𝓤 : Ura M} (𝓛 : Logic 𝓤) (R Q T : RattleType) (t
       -- [over, twice; the slots; the rights]
       move ! (3 ∷ []) $ fsplit ! $ move ! (4 ∷ []) $ fsplit3 ! $ move ! (2 ∷ []) $ drop ! $
       -- [the homes, two; the rights, two; over, twice]
-      move ! (4 ∷ 2 ∷ []) $ lent_back ! tt $ move ! (0 ∷ 1 ∷ []) $
-      use2 𝓛 (some (λ (x : R.Denot). given ((u : S) → a ≡ maybe.some u → First x ≡ u) (‵ (part_at R full_share x z.block (z.offset + at_first R))))) (first_back a) $
-      pick ! (λ x. learn ! (λ ha.
+      move ! (4 ∷ 2 ∷ []) $ lent_back ! tt $ move ! (0 ∷ 1 ∷ []) $ use2 𝓛 (some (λ (x : R.Denot). given ((u : S) → a ≡ maybe.some u → First x ≡ u) (‵ (part_at R full_share x
+      z.block (z.offset + at_first R))))) (first_back a) $ pick ! (λ x. learn ! (λ ha.
       -- [the first; the second's home; its right; over]
-      move ! (3 ∷ 2 ∷ []) $ lent_back ! tt $ move ! (0 ∷ 2 ∷ []) $
-      use2 𝓛 (some (λ (y : Q.Denot). given ((u : S) → b ≡ maybe.some u → Second y ≡ u) (‵ (part_at Q full_share y z.block (z.offset + at_second R Q))))) (second_back b) $
-      pick ! (λ y. learn ! (λ hb. move ! (1 ∷ 0 ∷ []) $ fjoin ! $ now ! $ show ! (All (a ∷ b ∷ [])) (x, y) $ check ! (tied a b (First x) (Second y) ha hb) $ done !))))
+      move ! (3 ∷ 2 ∷ []) $ lent_back ! tt $ move ! (0 ∷ 2 ∷ []) $ use2 𝓛 (some (λ (y : Q.Denot). given ((u : S) → b ≡ maybe.some u → Second y ≡ u) (‵ (part_at Q full_share y
+      z.block (z.offset + at_second R Q))))) (second_back b) $ pick ! (λ y. learn ! (λ hb. move ! (1 ∷ 0 ∷ []) $ fjoin ! $ now ! $ show ! (All (a ∷ b ∷ [])) (x, y) $
+      check ! (tied a b (First x) (Second y) ha hb) $ done !))))
   all_back (a ∷ b ∷ c ∷ hs) l = absurd (omega arith)
 
   module _ {V : Type 0} (cv : Coded V) (holds : State S V → Type 0) (out : ℕ → ℕ) (seat : maybe.Option (ℕ × V)) (s : State S V) (h : ℕ) where

@@ -8,8 +8,8 @@ use base.Fml.{Lft, Share, Fml, ftrue, fsep, fseps, fwand, fupd, fdead, fbor, flf
 use contract.BorrowLft.{meet_⊑_left}
 use ghost.Rules.{span, thinned}
 use types.Logic.{Logic, sem, lfts}
-use types.Kit.{‵, raw, ◌⊛◌, some, later, ◌$◌, ◌∵◌, !, qed, by, move, keep, drop, use1, use2, split, split3, frame, fsplit, fsplit3, fjoin, fjoin3, fpick, fpack, pick, assume,
-    suffices, await, updating, now, done}
+use types.Kit.{‵, raw, ◌⊛◌, some, later, ◌$◌, ◌∵◌, !, qed, by, move, keep, drop, use1, use2, split, split3, frame, fsplit, fsplit3, fjoin, fjoin3, fpick, fpack, pick, assume, now}
+use types.Kit.{suffices, await, updating, done}
 use types.Tokens.{bor_open, obor_alter, obor_close, bor_fracture, one_token}
 use types.RcWeak.{part, part_in}
 use denote.RattleType.{RattleType}
@@ -33,8 +33,8 @@ module _ {M : Type 1} {𝓤 : Ura M} (𝓛 : Logic 𝓤) (F : Fml) (G : Lft → 
       use1 𝓛 (some (λ (q : Share). ‵ (flft (span ts) q) ⊛ raw (wand 𝓤 (A.lft (span ts) q) (lfts 𝓛 ts)))) (one_token 𝓛 ts) $ pick ! (λ q. split ! $
       use1 𝓛 (‵ (flft κ (thinned κ q)) ⊛ raw (wand 𝓤 (A.lft κ (thinned κ q)) (A.lft (span ts) q))) (𝓛.lfts.lft-incl (span ts) κ q sp) $ split ! $ move ! (3 ∷ 0 ∷ []) $
       use2 𝓛 (later (‵ (G κ) ⊛ ‵ (flft κ (thinned κ q)))) (by_token κ (thinned κ q)) $ await ! tt $ split ! $ move ! (1 ∷ 2 ∷ []) $
-      use2 𝓛 (‵ (flft (span ts) q)) (apply∗ 𝓤 (A.lft κ (thinned κ q)) (A.lft (span ts) q)) $ move ! (0 ∷ 2 ∷ []) $
-      use2 𝓛 (raw (lfts 𝓛 ts)) (apply∗ 𝓤 (A.lft (span ts) q) (lfts 𝓛 ts)) $ now ! $ move ! (1 ∷ 0 ∷ []) $ done !)
+      use2 𝓛 (‵ (flft (span ts) q)) (apply∗ 𝓤 (A.lft κ (thinned κ q)) (A.lft (span ts) q)) $ move ! (0 ∷ 2 ∷ []) $ use2 𝓛 (raw (lfts 𝓛 ts)) (apply∗ 𝓤 (A.lft (span ts) q)
+      (lfts 𝓛 ts)) $ now ! $ move ! (1 ∷ 0 ∷ []) $ done !)
 
 module _ (R Q : RattleType) {V : Type 0} (c : V → Gv) (holds : State (Place R.Denot Q.Denot) V → Type 0) (out : ℕ → ℕ) (P : Fml) (z : BlockId) (t : Lft → Fml) (L : ShrLaws t) where
   abbrev K : Fml
@@ -67,12 +67,14 @@ module _ (R Q : RattleType) {V : Type 0} (c : V → Gv) (holds : State (Place R.
     𝓝 = signs 𝓛
 
     open 𝓝 use {⟦◌⟧, ◌⊢◌, ◌∗◌}
-    share_back : (κ : Lft) (e d : Share) → Counts 64 e 1 → Counts 62 d 1 → ⟦ K ⟧ ∗ ⟦ t (life z) ⟧
-        ⊢ ⟦ fwand (fsep (fdead κ) (fseps (flft (life z) e ∷ flft (stay z) d ∷ []))) (fupd owns) ⟧
+
+    share_back : (κ : Lft) (e d : Share) → Counts 64 e 1 → Counts 62 d 1 → ⟦ K ⟧ ∗ ⟦ t (life z) ⟧ ⊢ ⟦ fwand (fsep (fdead κ) (fseps (flft (life z) e ∷ flft (stay z) d ∷ [])))
+        (fupd owns) ⟧
     unfolding fseps
     share_back κ e d ce cd = qed 𝓛 (‵ K ∷ ‵ (t (life z)) ∷ []) ∵ assume ! (‵ (fsep (fdead κ) (fsep (flft (life z) e) (fsep (flft (stay z) d) ftrue)))) $
-        suffices ! ⟦ owns ⟧ (upd_i 𝓤 ⟦ owns ⟧) $ fsplit ! $ drop ! $ fsplit3 ! $ use1 𝓛 (‵ (part 64 z.age)) (part_in 64 𝓛 z.age e ce) $ move ! (1 ∷ []) $
-        use1 𝓛 (‵ (part 62 z.tally)) (part_in 62 𝓛 z.tally d cd) $ move ! (1 ∷ 0 ∷ []) $ fjoin ! $ keep ! (0 ∷ 2 ∷ 3 ∷ []) $ fjoin3 ! $ done !
+        suffices ! ⟦ owns ⟧ (upd_i 𝓤 ⟦ owns ⟧) $
+        fsplit ! $ drop ! $ fsplit3 ! $ use1 𝓛 (‵ (part 64 z.age)) (part_in 64 𝓛 z.age e ce) $ move ! (1 ∷ []) $ use1 𝓛 (‵ (part 62 z.tally)) (part_in 62 𝓛 z.tally d cd) $
+        move ! (1 ∷ 0 ∷ []) $ fjoin ! $ keep ! (0 ∷ 2 ∷ 3 ∷ []) $ fjoin3 ! $ done !
 
     share_by_token : (κ : Lft) (q : Share) → A.bor κ owns ∗ A.lft κ q ⊢ H.⇛ (⟦ shows κ ⟧ ∗ A.lft κ q)
     unfolding fseps
@@ -91,12 +93,12 @@ module _ (R Q : RattleType) {V : Type 0} (c : V → Gv) (holds : State (Place R.
     pub lends_share : (l : Lft) → Lends 𝓛 owns shows l
     lends_share l = lends_by 𝓛 owns shows l share_by_token
 
-    hold_back : (κ : Lft) (e : Share) → Counts 64 e 1 → ⟦ K ⟧ ∗ ⟦ t (life z) ⟧ ∗ ⟦ grip z.grips ⟧
-        ⊢ ⟦ fwand (fsep (fdead κ) (fseps (flft (life z) e ∷ []))) (fupd holder) ⟧
+    hold_back : (κ : Lft) (e : Share) → Counts 64 e 1 → ⟦ K ⟧ ∗ ⟦ t (life z) ⟧ ∗ ⟦ grip z.grips ⟧ ⊢ ⟦ fwand (fsep (fdead κ) (fseps (flft (life z) e ∷ []))) (fupd holder)
+        ⟧
     unfolding fseps
     hold_back κ e ce = qed 𝓛 (‵ K ∷ ‵ (t (life z)) ∷ ‵ (grip z.grips) ∷ []) ∵ assume ! (‵ (fsep (fdead κ) (fsep (flft (life z) e) ftrue))) $
-        suffices ! ⟦ holder ⟧ (upd_i 𝓤 ⟦ holder ⟧) $ fsplit3 ! $ move ! (1 ∷ []) $ use1 𝓛 (‵ (part 64 z.age)) (part_in 64 𝓛 z.age e ce) $ move ! (0 ∷ 5 ∷ []) $ fjoin ! $
-        keep ! (0 ∷ 3 ∷ 4 ∷ []) $ fjoin3 ! $ done !
+        suffices ! ⟦ holder ⟧ (upd_i 𝓤 ⟦ holder ⟧) $
+        fsplit3 ! $ move ! (1 ∷ []) $ use1 𝓛 (‵ (part 64 z.age)) (part_in 64 𝓛 z.age e ce) $ move ! (0 ∷ 5 ∷ []) $ fjoin ! $ keep ! (0 ∷ 3 ∷ 4 ∷ []) $ fjoin3 ! $ done !
 
     hold_by_token : (κ : Lft) (q : Share) → A.bor κ holder ∗ A.lft κ q ⊢ H.⇛ (⟦ seen_held κ ⟧ ∗ A.lft κ q)
     unfolding fseps
@@ -106,15 +108,15 @@ module _ (R Q : RattleType) {V : Type 0} (c : V → Gv) (holds : State (Place R.
         use1 𝓛 (‵ (t (life z)) ⊛ ‵ (t (life z))) (contraction 𝓛 t L (life z)) $ split ! $ move ! (4 ∷ 0 ∷ 3 ∷ []) $
         types.Kit.use3 𝓛 (‵ (fwand (fsep (fdead κ) (fseps (flft (life z) e ∷ []))) (fupd holder))) (hold_back κ e ce) $
         -- [the way back; the value; the token; the open borrow]
-        nothing ! $ move ! (3 ∷ 0 ∷ []) $ fjoin ! $ move ! (3 ∷ 0 ∷ 1 ∷ []) $ obor_alter ! tt (flft (life z) e ∷ []) $ use1 𝓛 (‵ (fbor κ (flft (life z) e)) ⊛
-        ‵ ftrue) (id⊢ 𝓤 _) $ split ! $ bor_fracture ! tt (λ r. flft (life z) r) e $ move ! (0 ∷ 3 ∷ []) $ fjoin ! $ now ! $ keep ! (0 ∷ 2 ∷ []) $ done !))
+        nothing ! $ move ! (3 ∷ 0 ∷ []) $ fjoin ! $ move ! (3 ∷ 0 ∷ 1 ∷ []) $ obor_alter ! tt (flft (life z) e ∷ []) $ use1 𝓛 (‵ (fbor κ (flft (life z) e)) ⊛ ‵ ftrue)
+        (id⊢ 𝓤 _) $ split ! $ bor_fracture ! tt (λ r. flft (life z) r) e $ move ! (0 ∷ 3 ∷ []) $ fjoin ! $ now ! $ keep ! (0 ∷ 2 ∷ []) $ done !))
 
     pub lends_hold : (l : Lft) → Lends 𝓛 holder seen_held l
     lends_hold l = lends_by 𝓛 holder seen_held l hold_by_token
 
     kept_by_token : (κ : Lft) (q : Share) → A.bor κ K ∗ A.lft κ q ⊢ H.⇛ (⟦ K ⟧ ∗ A.lft κ q)
-    kept_by_token κ q = qed 𝓛 (‵ (fbor κ K) ∷ ‵ (flft κ q) ∷ []) ∵ updating ! $ bor_open ! tt $ move ! (1 ∷ []) $
-        use1 𝓛 (‵ K ⊛ ‵ K) (keeping.kept_twice R Q c holds out P z 𝓛) $ split ! $ move ! (2 ∷ 0 ∷ []) $ obor_close ! tt $ now ! $ keep ! (2 ∷ 1 ∷ []) $ done !
+    kept_by_token κ q = qed 𝓛 (‵ (fbor κ K) ∷ ‵ (flft κ q) ∷ []) ∵ updating ! $ bor_open ! tt $ move ! (1 ∷ []) $ use1 𝓛 (‵ K ⊛ ‵ K) (keeping.kept_twice R Q c holds out P z
+        𝓛) $ split ! $ move ! (2 ∷ 0 ∷ []) $ obor_close ! tt $ now ! $ keep ! (2 ∷ 1 ∷ []) $ done !
 
     pub lends_kept : (l : Lft) → Lends 𝓛 K (λ _. K) l
     lends_kept l = lends_by 𝓛 K (λ _. K) l kept_by_token

@@ -9,8 +9,8 @@ pub use base.Stored.{Coded}
 pub use base.Logic.{SProp, ent, sep, emp, all, all_e, via, id⊢, apply∗, fst∗, never}
 pub use base.Fml.{Lft, Share, Fml, ftrue, fsep, fex, feq, flft, fhide, finv, fbor, fobs}
 pub use types.Logic.{sem}
-pub use types.Kit.{‵, raw, ◌⊛◌, some, given, later, mean, at_ret, ◌$◌, ◌∵◌, !, qed, by, move, keep, drop, split, split3, join, group, fsplit, fsplit3, fjoin, fjoin3, fpick, fpack,
-    pick, learn, use0, use1, use2, use3, await, rewrite, feq_i, feq_l, flt_i, suffices, done, Item}
+pub use types.Kit.{‵, raw, ◌⊛◌, some, given, later, mean, at_ret, ◌$◌, ◌∵◌, !, qed, by, move, keep, drop, split, split3, join, group, fsplit, fsplit3, fjoin, fjoin3, fpick, fpack}
+pub use types.Kit.{pick, learn, use0, use1, use2, use3, await, rewrite, feq_i, feq_l, flt_i, suffices, done, Item}
 pub use types.Run.{stop, fld, hop, load, addr, lit, of_opd, no_more, and_then, first, blocks, exec, Calls-last, returns, enter, unit_lit}
 pub use types.ByLocal.{alloc_all, pass_all, free_all, look_at, get, get_in, through, sets, sets_last, lands_last, lands_as, is, env}
 pub use types.Part.{agg, sub, whole, look_in}
@@ -45,8 +45,8 @@ pub use Rattle.counted_block.specs.Blocks.{BlockId, seat_owns, block, life, plac
 pub use Rattle.counted_block.specs.Counts.{Notes, Less, Same, Last, More}
 pub use Rattle.counted_block.specs.Held.{content, kept_of, share_shown, value_there, slots_there, rebox, looked_at, hold_shown}
 pub use Rattle.counted_block.proofs.Tokens.{tokens, seven, eight}
-pub use Rattle.counted_block.proofs.Fields.{PairData, MarkerData, pair_told, pair_at, pair_made, marker_made, ShareData, HoldData, LedgerData, share_lent, hold_lent, ledger_lent, share_opens,
-    hold_opens, ptr_and_marker, marker_val, in_place, ptr_typed, pair_typed}
+pub use Rattle.counted_block.proofs.Fields.{PairData, MarkerData, pair_told, pair_at, pair_made, marker_made, ShareData, HoldData, LedgerData, share_lent, hold_lent, ledger_lent, share_opens}
+pub use Rattle.counted_block.proofs.Fields.{hold_opens, ptr_and_marker, marker_val, in_place, ptr_typed, pair_typed}
 pub use Rattle.counted_block.proofs.Keeping.{kept_inv, kept_shows, kept_twice}
 pub use types.SemTy.{Body}
 pub use denote.Follow.{follows}

@@ -21,6 +21,7 @@ module _ {M : Type 1} {𝓤 : Ura M} (𝓛 : Logic 𝓤) (I : Fml) (b o : ℕ) (
   𝓝 = signs 𝓛
 
   open 𝓝 use {⟦◌⟧, ◌∗◌, ◌-∗◌}
+
   -- what is there after the step, once these lifetimes have ended
   abbrev pub Ends : List ℕ → ℕ → Pr
   Ends [] n = upd 𝓤 (⟦ I ⟧ ∗ ⟦ after n ⟧)
@@ -50,5 +51,5 @@ module _ {M : Type 1} {𝓤 : Ura M} (𝓛 : Logic 𝓤) (I : Fml) (b o : ℕ) (
       suffices ! _ (upd_i 𝓤 (guard 𝓤 (¬ Mem j []) (A.named j I ∗ (⟦ I ⟧ -∗ upd 𝓤 F)))) $ check ! (λ m. not-mem-nil m) $ frame ! $ assume ! (‵ I) $
       use2 𝓛 (raw (upd 𝓤 (ex 𝓤 Lies))) h $ settle 𝓛 F (some (λ (n : ℕ). ‵ (word b o n) ⊛ raw (⟦ word b o (f n) ⟧ -∗ Ended n))) $ suffices ! _ (upd_i 𝓤 F) $
       pick ! (λ n. split ! $ show ! (found 𝓛 L b o f always after) n $ frame ! $ each ! (λ (_ : always n). back 𝓛 L b o f after n) (λ y. assume ! (‵ (word b o (f n))) $
-      use2 𝓛 (raw (Ended n)) (apply∗ 𝓤 ⟦ word b o (f n) ⟧ (Ended n)) $ by ! (let E : List ℕ → Pr = λ ls. Ends ls n in
-      let G : Shift → Pr = λ s. along 𝓛 s (if_none 𝓛 ⟦ after n ⟧) L in ex_e 𝓤 E (λ ls. via 𝓤 (G (shift ls)) (shifts j ls n) (ex_i 𝓤 G (shift ls)))))))
+      use2 𝓛 (raw (Ended n)) (apply∗ 𝓤 ⟦ word b o (f n) ⟧ (Ended n)) $ by ! (let E : List ℕ → Pr = λ ls. Ends ls n in let G : Shift → Pr = λ s. along 𝓛 s (if_none 𝓛 ⟦ after
+      n ⟧) L in ex_e 𝓤 E (λ ls. via 𝓤 (G (shift ls)) (shifts j ls n) (ex_i 𝓤 G (shift ls)))))))

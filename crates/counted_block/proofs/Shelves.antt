@@ -30,6 +30,7 @@ module _ {M : Type 1} {𝓤 : Ura M} (𝓛 : Logic 𝓤) (R Q : RattleType) (z :
   𝓝 = signs 𝓛
 
   open 𝓝 use {⟦◌⟧, ◌⊢◌, ◌∗◌}
+
   abbrev Left : ℕ → List (Option X) → ℕ → ℕ → X → SProp 𝓤
   Left k hs i j y = guard 𝓤 (i < length hs) (⟦ tracked R Q z j y ⟧ ∗ ⟦ shelf R Q z k (set hs i none) ⟧)
 
@@ -59,9 +60,9 @@ module _ {M : Type 1} {𝓤 : Ura M} (𝓛 : Logic 𝓤) (R Q : RattleType) (z :
   acts hs [] gives long ok = id⊢ 𝓤 (Done hs [] keeps)
   acts hs (x ∷ xs) gives long ok = qed 𝓛 (‵ (shelf R Q z 0 hs) ∷ ‵ (carried R Q z (x ∷ xs)) ∷ []) ∵ move ! (1 ∷ []) $ fsplit ! $ move ! (2 ∷ 0 ∷ []) $
       use2 𝓛 (‵ (shelf R Q z 0 (set hs x.0 (some x.1)))) (arrives hs 0 x.0 x.0 x.1 (omega arith)) $ done !
-  acts hs cs (chain a a') long ok = let hs' : List (Option X) = homes_after hs cs a in let cs' : List (ℕ × X) = carried_after cs a in
-      qed 𝓛 (‵ (shelf R Q z 0 hs) ∷ ‵ (carried R Q z cs) ∷ []) ∵ use2 𝓛 (‵ (shelf R Q z 0 hs') ⊛ ‵ (carried R Q z cs')) (acts hs cs a long ok.0) $ split ! $
-      by ! (acts hs' cs' a' (same_size hs cs a ∙ long) ok.1)
+  acts hs cs (chain a a') long ok = let hs' : List (Option X) = homes_after hs cs a in let cs' : List (ℕ × X) = carried_after cs a in qed 𝓛 (‵ (shelf R Q z 0 hs) ∷ ‵ (carried R Q z cs) ∷
+      []) ∵
+      use2 𝓛 (‵ (shelf R Q z 0 hs') ⊛ ‵ (carried R Q z cs')) (acts hs cs a long ok.0) $ split ! $ by ! (acts hs' cs' a' (same_size hs cs a ∙ long) ok.1)
 
   module _ {V : Type 0} (c : V → Gv) (id : ℕ) (v : V) where
     abbrev pub Swapped : ℕ → List (ℕ × X) → X → SProp 𝓤
@@ -74,8 +75,8 @@ module _ {M : Type 1} {𝓤 : Ura M} (𝓛 : Logic 𝓤) (R Q : RattleType) (z :
 
   behind : (xs : List (ℕ × X)) (x : ℕ × X) → ⟦ carried R Q z xs ⟧ ∗ ⟦ carried R Q z (x ∷ []) ⟧ ⊢ ⟦ carried R Q z (xs ++ x ∷ []) ⟧
   behind [] x = snd∗ 𝓤 ⟦ carried R Q z [] ⟧ ⟦ carried R Q z (x ∷ []) ⟧
-  behind (y ∷ ys) x = qed 𝓛 (‵ (carried R Q z (y ∷ ys)) ∷ ‵ (carried R Q z (x ∷ [])) ∷ []) ∵ fsplit ! $ move ! (1 ∷ 2 ∷ []) $
-      use2 𝓛 (‵ (carried R Q z (ys ++ x ∷ []))) (behind ys x) $ move ! (1 ∷ 0 ∷ []) $ fjoin ! $ done !
+  behind (y ∷ ys) x = qed 𝓛 (‵ (carried R Q z (y ∷ ys)) ∷ ‵ (carried R Q z (x ∷ [])) ∷ []) ∵ fsplit ! $ move ! (1 ∷ 2 ∷ []) $ use2 𝓛 (‵ (carried R Q z (ys ++ x ∷ [])))
+      (behind ys x) $ move ! (1 ∷ 0 ∷ []) $ fjoin ! $ done !
 
   pub turns : {V : Type 0} (c : V → Gv) (id : ℕ) (v : V) (cs : List (ℕ × X)) → ⟦ seat_owns R Q z c id (v, cs) ⟧ ⊢ ⟦ seat_owns R Q z c id (v, turned cs) ⟧
   turns c id v [] = id⊢ 𝓤 _
