@@ -1,5 +1,5 @@
 -- A block begins: both counts, the loans, the invariant, the first shares and the first seat. Assumes `Logic`.
-use Rattle.std.proofs.Common.{◌≡◌, ℕ, ◌+◌, ◌<◌, Bool, true, false, [], ◌∷◌, sym, refl, arith, lit<}
+use Rattle.std.proofs.Common.{eqb, ◌≡◌, ℕ, ◌+◌, ◌<◌, Bool, true, false, [], ◌∷◌, sym, refl, arith, lit<}
 use seplogic.Ra.Ura.{Ura}
 use mir.Syntax.{Ty}
 use base.Fraction.{full_share}
@@ -10,7 +10,8 @@ use base.Fml.{Lft, Incl, Incl-trans, Share, Fml, ftrue, fsep, fauth, flft}
 use contract.BorrowLft.{meet_⊑_left, meet_⊑_right}
 use prog.Atomic.{either}
 use types.Logic.{Logic, sem}
-use types.Kit.{‵, raw, ◌⊛◌, some, later, ◌$◌, ◌∵◌, !, qed, move, use0, use1, use2, split, split3, join, group, fsplit, fjoin, fjoin3, fpick, fpack, pick, check, show, frame, await, updating, now, rewrite, done}
+use types.Kit.{‵, raw, ◌⊛◌, some, later, ◌$◌, ◌∵◌, !, qed, move, use0, use1, use2, split, split3, join, group, fsplit, fjoin, fjoin3, fpick, fpack, pick, check, show, frame, await}
+use types.Kit.{updating, now, rewrite, done}
 use types.Tokens.{lft_new, bor_new, name_new}
 use types.Owned.{basic}
 use types.RcWeak.{part, rest, part_in, cut}
@@ -31,34 +32,37 @@ use Rattle.counted_block.specs.Blocks.{BlockId, life, place, parts, parts_if, gr
 use Rattle.counted_block.specs.Held.{slots_there, content, looked_at, kept_of}
 use Rattle.counted_block.proofs.Grips as grips
 use Rattle.counted_block.proofs.Keeping.{keeps_new}
+use Rattle.counted_block.proofs.Signs.{Signs, signs}
+use Rattle.counted_block.proofs.Holds.{is_eq, not_eq}
 
 -- one share or two
 abbrev pub first_out : Bool → ℕ
 first_out y = either y 2 1
 
+pub first_counts : (m : ℕ) (y : Bool) → eqb m 2 ≡ y → 0 < m → m < 3 → m ≡ first_out y
+first_counts m true e lo hi = is_eq m 2 e
+first_counts m false e lo hi = let ne = not_eq m 2 e in omega (arith, ne)
+
 module _ {M : Type 1} {𝓤 : Ura M} (𝓛 : Logic 𝓤) (z : BlockId) where
-  first_parts : (y : Bool) → ent 𝓤 (sep 𝓤 (sem 𝓛 (rest 64 z.age 1)) (sem 𝓛 (rest 62 z.tally 1))) (sep 𝓤 (sem 𝓛 (rest 64 z.age (first_out y))) (sep 𝓤 (sem 𝓛 (rest 62 z.tally (first_out y))) (sem 𝓛 (parts_if y z))))
+  first_parts : (y : Bool) → ent 𝓤 (sep 𝓤 (sem 𝓛 (rest 64 z.age 1)) (sem 𝓛 (rest 62 z.tally 1))) (sep 𝓤 (sem 𝓛 (rest 64 z.age (first_out y)))
+      (sep 𝓤 (sem 𝓛 (rest 62 z.tally (first_out y))) (sem 𝓛 (parts_if y z))))
   first_parts false = qed 𝓛 (‵ (rest 64 z.age 1) ∷ ‵ (rest 62 z.tally 1) ∷ []) ∵ frame ! $ frame ! $ nothing ! $ done !
-  first_parts true = qed 𝓛 (‵ (rest 64 z.age 1) ∷ ‵ (rest 62 z.tally 1) ∷ []) ∵ use1 𝓛 (‵ (rest 64 z.age 2) ⊛ ‵ (part 64 z.age)) (counts.takes 64 𝓛 z.age 1 (lit< tt)) $ split ! $ frame ! $ move ! (1 ∷ []) $
+  first_parts true = qed 𝓛 (‵ (rest 64 z.age 1) ∷ ‵ (rest 62 z.tally 1) ∷ []) ∵ use1 𝓛 (‵ (rest 64 z.age 2) ⊛ ‵ (part 64 z.age)) (counts.takes 64 𝓛 z.age 1 (lit< tt)) $
+      split ! $ frame ! $ move ! (1 ∷ []) $
       use1 𝓛 (‵ (rest 62 z.tally 2) ⊛ ‵ (part 62 z.tally)) (counts.takes 62 𝓛 z.tally 1 (lit< tt)) $ split ! $ frame ! $ move ! (1 ∷ 0 ∷ []) $ fjoin ! $ done !
 
-module _ {M : Type 1} {𝓤 : Ura M} (𝓛 : Logic 𝓤) (R Q T : RattleType) {V : Type 0} (cv : Coded V) (holds : State (Place R.Denot Q.Denot) V → Type 0) (out : ℕ → ℕ) (k : Ty → Ptr → Fml) (x : T.Denot) (b o : ℕ) where
+module _ {M : Type 1} {𝓤 : Ura M} (𝓛 : Logic 𝓤) (R Q T : RattleType) {V : Type 0} (cv : Coded V) (holds : State (Place R.Denot Q.Denot) V → Type 0) (out : ℕ → ℕ) (k : Ty → Ptr →
+    Fml) (x : T.Denot) (b o : ℕ) where
   open 𝓛 use {H, A}
 
   abbrev Pr : Type 2
   Pr = SProp 𝓤
 
-  abbrev ⟦◌⟧ : Fml → Pr
-  ⟦ P ⟧ = sem 𝓛 P
+  abbrev 𝓝 : Signs 𝓛
+  𝓝 = signs 𝓛
 
-  abbrev ◌⊢◌ : Pr → Pr → Type 1
-  P ⊢ Q = ent 𝓤 P Q
+  open 𝓝 use {⟦◌⟧, ◌⊢◌, ◌∗◌}
 
-  abbrev ◌∗◌ : Pr → Pr → Pr
-  P ∗ Q = sep 𝓤 P Q
-
-  infix 26 ◌⊢◌
-  infixr 35 ◌∗◌
   abbrev S : Type 0
   S = Place R.Denot Q.Denot
 
@@ -71,38 +75,43 @@ module _ {M : Type 1} {𝓤 : Ura M} (𝓛 : Logic 𝓤) (R Q T : RattleType) {V
 
   module _ (y : Bool) (n : ℕ) (m : R.Denot × Q.Denot) (v : V) where
     abbrev pub Begun : BlockId → Pr
-    Begun z = guard 𝓤 (place z ≡ block_ptr b o) (⟦ parts z ⟧ ∗ ⟦ parts_if y z ⟧ ∗ ⟦ kept_of R Q T cv.code holds out k z x ⟧ ∗ ⟦ looked_at R Q T k z x (life z) ⟧ ∗ ⟦ seat_owns R Q z cv.code 0 (v, []) ⟧)
+    Begun z = guard 𝓤 (place z ≡ block_ptr b o) (⟦ parts z ⟧ ∗ ⟦ parts_if y z ⟧ ∗ ⟦ kept_of R Q T cv.code holds out k z x ⟧ ∗ ⟦ looked_at R Q T k z x (life z) ⟧
+        ∗ ⟦ seat_owns R Q z cv.code 0 (v, []) ⟧)
 
-    packs : (z : BlockId) → place z ≡ block_ptr b o → ⟦ parts z ⟧ ∗ ⟦ parts_if y z ⟧ ∗ ⟦ kept_of R Q T cv.code holds out k z x ⟧ ∗ ⟦ looked_at R Q T k z x (life z) ⟧ ∗ ⟦ seat_owns R Q z cv.code 0 (v, []) ⟧ ⊢ ex 𝓤 Begun
-    packs z at = qed 𝓛 (‵ (parts z) ∷ ‵ (parts_if y z) ∷ ‵ (kept_of R Q T cv.code holds out k z x) ∷ ‵ (looked_at R Q T k z x (life z)) ∷ ‵ (seat_owns R Q z cv.code 0 (v, [])) ∷ []) ∵ show ! Begun z $ check ! at $ done !
+    packs : (z : BlockId) → place z ≡ block_ptr b o → ⟦ parts z ⟧ ∗ ⟦ parts_if y z ⟧ ∗ ⟦ kept_of R Q T cv.code holds out k z x ⟧ ∗ ⟦ looked_at R Q T k z x (life z) ⟧
+        ∗ ⟦ seat_owns R Q z cv.code 0 (v, []) ⟧ ⊢ ex 𝓤 Begun
+    packs z at = qed 𝓛 (‵ (parts z) ∷ ‵ (parts_if y z) ∷ ‵ (kept_of R Q T cv.code holds out k z x) ∷ ‵ (looked_at R Q T k z x (life z)) ∷ ‵ (seat_owns R Q z cv.code 0 (v, [])) ∷
+        []) ∵ show ! Begun z $ check ! at $ done !
 
-    pub begun : out n ≡ first_out y → holds (opening (n ∷ []) (First m.0 ∷ Second m.1 ∷ []) v) → (l : Lft) → Lends 𝓛 P (looked_at R Q T k unnamed x) l → (μ : Lft) (q : Share) → Incl μ l
+    pub begun : out n ≡ first_out y → holds (opening (n ∷ []) (First m.0 ∷ Second m.1 ∷ []) v) → (l : Lft) → Lends 𝓛 P (looked_at R Q T k unnamed x) l → (μ : Lft) (q : Share) →
+        Incl μ l
         → ⟦ words_in unnamed n 0 ⟧ ∗ ⟦ slots_there R Q T k unnamed x m ⟧ ∗ ⟦ P ⟧ ∗ A.lft μ q ⊢ H.⇛ (ex 𝓤 Begun ∗ A.lft μ q)
     begun count good l lends μ q inc = qed 𝓛 (‵ (words_in unnamed n 0) ∷ ‵ (slots_there R Q T k unnamed x m) ∷ ‵ P ∷ ‵ (flft μ q) ∷ []) ∵ updating ! $
         lft_new ! tt (λ a. use1 𝓛 (‵ (rest 64 a 1) ⊛ ‵ (part 64 a)) (cut 64 𝓛 a 0 full_share (lit< tt) (Counts-all 64)) $ split ! $
         lft_new ! tt (λ d. use1 𝓛 (‵ (rest 62 d 1) ⊛ ‵ (part 62 d)) (cut 62 𝓛 d 0 full_share (lit< tt) (Counts-all 62)) $ split ! $
         -- [the tally's rest and part; the age's; the words; the slots; the content; the token]
-        move ! (5 ∷ []) $ fsplit ! $
-        name_new ! tt (R.coded.code m.0) (λ d₀. move ! (2 ∷ 1 ∷ []) $ fjoin ! $ fpack ! R.Denot (λ w. fsep (part_at R full_share w b (o + at_first R)) (fauth d₀ (R.coded.code w))) m.0 $ bor_new ! tt (a ∷ []) $ move ! (2 ∷ 0 ∷ []) $ fjoin ! $ move ! (2 ∷ []) $
-        name_new ! tt (Q.coded.code m.1) (λ d₁. move ! (2 ∷ 1 ∷ []) $ fjoin ! $ fpack ! Q.Denot (λ w. fsep (part_at Q full_share w b (o + at_second R Q)) (fauth d₁ (Q.coded.code w))) m.1 $ bor_new ! tt (a ∷ []) $ move ! (2 ∷ 0 ∷ []) $ fjoin ! $
+        move ! (5 ∷ []) $ fsplit ! $ name_new ! tt (R.coded.code m.0) (λ d₀. move ! (2 ∷ 1 ∷ []) $ fjoin ! $ fpack ! R.Denot (λ w. fsep (part_at R full_share w b (o + at_first R))
+        (fauth d₀ (R.coded.code w))) m.0 $ bor_new ! tt (a ∷ []) $ move ! (2 ∷ 0 ∷ []) $ fjoin ! $ move ! (2 ∷ []) $ name_new ! tt (Q.coded.code m.1) (λ d₁. move ! (2 ∷ 1 ∷ []) $
+        fjoin ! $ fpack ! Q.Denot (λ w. fsep (part_at Q full_share w b (o + at_second R Q)) (fauth d₁ (Q.coded.code w))) m.1 $ bor_new ! tt (a ∷ []) $ move ! (2 ∷ 0 ∷ []) $ fjoin ! $
         -- [the second slot and the right to it; the first's; the tally's rest and part; the age's; the words; the content; the token]
         nothing ! $ move ! (1 ∷ 0 ∷ []) $ fjoin ! $ move ! (2 ∷ 0 ∷ []) $ fjoin ! $ move ! (2 ∷ 1 ∷ []) $ fjoin ! $
         -- [the rights; the shelf; the tally's rest and part; the age's; the words; the content; the token]
-        move ! (7 ∷ []) $ bor_new ! tt (a ∷ []) $ move ! (1 ∷ 2 ∷ []) $ fjoin ! $ move ! (2 ∷ 0 ∷ []) $ fjoin ! $
-        use0 𝓛 (later (some (λ (γ : ℕ). ‵ (grips_left γ 0)))) (via 𝓤 _ (grips.begins 𝓛) (basic 𝓛 (ex 𝓤 (λ (γ : ℕ). ⟦ grips_left γ 0 ⟧)))) $ await ! tt $ pick ! (λ γ'.
-        use0 𝓛 (later (some (λ (γ : ℕ). ‵ (roster cv.code γ 0 (v ∷ [])) ⊛ ‵ (mark_owns cv.code γ 0 v)))) (marking.begins 𝓛 cv v) $ await ! tt $ pick ! (λ γ. split ! $
-        let z : BlockId = record { views = γ; age = a; tally = d; grips = γ'; first = d₀; second = d₁; block = b; offset = o } in let s₀ : State S V = opening (n ∷ []) (First m.0 ∷ Second m.1 ∷ []) v in
+        move ! (7 ∷ []) $ bor_new ! tt (a ∷ []) $ move ! (1 ∷ 2 ∷ []) $ fjoin ! $ move ! (2 ∷ 0 ∷ []) $ fjoin ! $ use0 𝓛 (later (some (λ (γ : ℕ). ‵ (grips_left γ 0))))
+        (via 𝓤 _ (grips.begins 𝓛) (basic 𝓛 (ex 𝓤 (λ (γ : ℕ). ⟦ grips_left γ 0 ⟧)))) $ await ! tt $
+        pick ! (λ γ'. use0 𝓛 (later (some (λ (γ : ℕ). ‵ (roster cv.code γ 0 (v ∷ [])) ⊛ ‵ (mark_owns cv.code γ 0 v)))) (marking.begins 𝓛 cv v) $ await ! tt $
+        pick ! (λ γ. split ! $ let z : BlockId = record { views = γ; age = a; tally = d; grips = γ'; first = d₀; second = d₁; block = b; offset = o } in
+        let s₀ : State S V = opening (n ∷ []) (First m.0 ∷ Second m.1 ∷ []) v in
         -- [the roster; the view; the grips; the slots and what is lent; the content's borrow; the tally's rest and part; the age's; the words; the token]
-        nothing ! $ fpack ! (Fits holds s₀) (λ _. ftrue) (good, refl, refl) $ move ! (1 ∷ 0 ∷ []) $ fjoin ! $ move ! (7 ∷ 5 ∷ []) $
-        use2 𝓛 (‵ (rest 64 a (first_out y)) ⊛ ‵ (rest 62 d (first_out y)) ⊛ ‵ (parts_if y z)) (first_parts 𝓛 z y) $ split3 ! $
-        let sum : first_out y ≡ out n + 0 = omega arith in rewrite ! 0 (λ (i : ℕ). ‵ (rest 64 a i)) sum refl $ rewrite ! 1 (λ (i : ℕ). ‵ (rest 62 d i)) (sym count) refl $ fjoin ! $ move ! (0 ∷ 4 ∷ []) $ fjoin ! $
-        nothing ! $ fpack ! (0 < 9223372036854775808) (λ _. ftrue) (lit< tt) $ fjoin ! $
+        nothing ! $ fpack ! (Fits holds s₀) (λ _. ftrue) (good, refl, refl) $ move ! (1 ∷ 0 ∷ []) $ fjoin ! $ move ! (7 ∷ 5 ∷ []) $ use2 𝓛 (‵ (rest 64 a (first_out y)) ⊛
+        ‵ (rest 62 d (first_out y)) ⊛ ‵ (parts_if y z)) (first_parts 𝓛 z y) $ split3 ! $ let sum : first_out y ≡ out n + 0 = omega arith in rewrite ! 0 (λ (i : ℕ). ‵ (rest 64 a i)) sum
+        refl $ rewrite ! 1 (λ (i : ℕ). ‵ (rest 62 d i)) (sym count) refl $ fjoin ! $ move ! (0 ∷ 4 ∷ []) $ fjoin ! $ nothing ! $ fpack ! (0 < 9223372036854775808) (λ _. ftrue) (lit< tt) $
+        fjoin ! $
         -- [the counts; the second share; the views; the view; the slots and what is lent; the borrow; the tally's part; the age's; the words; the token]
-        move ! (4 ∷ 2 ∷ []) $ fjoin ! $ move ! (7 ∷ 1 ∷ 0 ∷ []) $ fjoin3 ! $ fpack ! (Bool × (State S V × ℕ)) (standing R Q cv.code holds out P z) (true, (s₀, 0)) $ fpack ! Bool (stands R Q cv.code holds out P z) true $
-        use1 𝓛 (later (‵ (kept_of R Q T cv.code holds out k z x))) (keeps_new R Q cv.code holds out P z 𝓛) $ await ! tt $
+        move ! (4 ∷ 2 ∷ []) $ fjoin ! $ move ! (7 ∷ 1 ∷ 0 ∷ []) $ fjoin3 ! $ fpack ! (Bool × (State S V × ℕ)) (standing R Q cv.code holds out P z) (true, (s₀, 0)) $
+        fpack ! Bool (stands R Q cv.code holds out P z) true $ use1 𝓛 (later (‵ (kept_of R Q T cv.code holds out k z x))) (keeps_new R Q cv.code holds out P z 𝓛) $ await ! tt $
         -- [what is kept; the second share; the view; the borrow; the tally's part; the age's; the token]
-        move ! (5 ∷ []) $ fpick ! (λ e. fpick ! (λ c. move ! (0 ∷ 6 ∷ []) $ join ! $ move ! (4 ∷ 0 ∷ []) $
-        use2 𝓛 (later (‵ (looked_at R Q T k unnamed x (a ∷ [])) ⊛ ‵ (flft (a ∷ []) e) ⊛ ‵ (flft μ q))) (lends (a ∷ []) ((a ∷ [], e) ∷ (μ, q) ∷ []) (Incl-trans (meet_⊑_right (a ∷ []) μ) inc) (meet_⊑_left (a ∷ []) μ)) $ await ! tt $ split3 ! $
-        move ! (1 ∷ []) $ use1 𝓛 (‵ (part 64 a)) (part_in 64 𝓛 a e c) $ move ! (0 ∷ 6 ∷ []) $ fjoin ! $
+        move ! (5 ∷ []) $ fpick ! (λ e. fpick ! (λ c. move ! (0 ∷ 6 ∷ []) $ join ! $ move ! (4 ∷ 0 ∷ []) $ use2 𝓛 (later (‵ (looked_at R Q T k unnamed x (a ∷ [])) ⊛
+        ‵ (flft (a ∷ []) e) ⊛ ‵ (flft μ q))) (lends (a ∷ []) ((a ∷ [], e) ∷ (μ, q) ∷ []) (Incl-trans (meet_⊑_right (a ∷ []) μ) inc) (meet_⊑_left (a ∷ []) μ)) $ await ! tt $
+        split3 ! $ move ! (1 ∷ []) $ use1 𝓛 (‵ (part 64 a)) (part_in 64 𝓛 a e c) $ move ! (0 ∷ 6 ∷ []) $ fjoin ! $
         -- [the parts; the value; the token; what is kept; the second share; the view]
         nothing ! $ move ! (6 ∷ 0 ∷ []) $ fjoin ! $ move ! (1 ∷ 5 ∷ 4 ∷ 2 ∷ 0 ∷ []) $ group ! 5 $ use1 𝓛 (raw (ex 𝓤 Begun)) (packs z refl) $ now ! $ done !))))))))

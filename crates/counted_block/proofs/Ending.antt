@@ -11,7 +11,8 @@ use base.Logic.{SProp, ent, sep, wand, ex, all, guard, guard_i, upd, upd_i}
 use base.Fml.{Fml, ftrue, fsep, flft, fdead}
 use contract.Monad.{fact_i, fact_use}
 use types.Logic.{Logic, sem}
-use types.Kit.{‵, raw, ◌⊛◌, given, ◌$◌, ◌∵◌, !, qed, by, move, keep, drop, split, fsplit, fsplit3, fjoin, fjoin3, fpick, fpack, learn, show, frame, assume, suffices, done, use1, use2, rewrite}
+use types.Kit.{‵, raw, ◌⊛◌, given, ◌$◌, ◌∵◌, !, qed, by, move, keep, drop, split, fsplit, fsplit3, fjoin, fjoin3, fpick, fpack, learn, show, frame, assume, suffices, done, use1}
+use types.Kit.{use2, rewrite}
 use denote.RattleType.{RattleType}
 use denote.RawPtr.{block_ptr}
 use denote.Steps.{nothing}
@@ -25,6 +26,7 @@ use Rattle.counted_block.specs.Counts.{Last}
 use Rattle.counted_block.proofs.Opening.{Ends, Ended}
 use Rattle.counted_block.proofs.Counting as counting
 use Rattle.counted_block.proofs.Holds.{J, around, over, goes_on, opened, is_eq, not_eq}
+use Rattle.counted_block.proofs.Signs.{Signs, signs}
 
 module _ {M : Type 1} {𝓤 : Ura M} (𝓛 : Logic 𝓤) {V : Type 0} (cv : Coded V) (γ : ℕ) where
   -- a seat's view is the roster's
@@ -32,7 +34,8 @@ module _ {M : Type 1} {𝓤 : Ura M} (𝓛 : Logic 𝓤) {V : Type 0} (cv : Code
       (guard 𝓤 (get_elem? vs id ≡ maybe.some v) (sep 𝓤 (sem 𝓛 (roster cv.code γ 0 vs)) (sem 𝓛 (seen cv.code γ id three_quarters v))))
   seen_at vs id v = let φ : Type 0 = get_elem? vs id ≡ maybe.some v in let X : SProp 𝓤 = sep 𝓤 (sem 𝓛 (roster cv.code γ 0 vs)) (sem 𝓛 (seen cv.code γ id three_quarters v)) in
       fact_use 𝓤 φ (qed 𝓛 (‵ (roster cv.code γ 0 vs) ∷ ‵ (seen cv.code γ id three_quarters v) ∷ []) ∵
-      use2 𝓛 (given (get_elem? vs id ≡ maybe.some v) (raw (all 𝓤 (Moved 𝓛 cv γ 0 vs id id)))) (moves 𝓛 cv γ vs 0 id id v (omega arith)) $ learn ! (λ at. by ! (fact_i 𝓤 φ (all 𝓤 (Moved 𝓛 cv γ 0 vs id id)) at))) (guard_i 𝓤 φ X)
+      use2 𝓛 (given (get_elem? vs id ≡ maybe.some v) (raw (all 𝓤 (Moved 𝓛 cv γ 0 vs id id)))) (moves 𝓛 cv γ vs 0 id id v (omega arith)) $
+      learn ! (λ at. by ! (fact_i 𝓤 φ (all 𝓤 (Moved 𝓛 cv γ 0 vs id id)) at))) (guard_i 𝓤 φ X)
 
 module _ {M : Type 1} {𝓤 : Ura M} (𝓛 : Logic 𝓤) (R Q : RattleType) {V : Type 0} (cv : Coded V) (holds : State (Place R.Denot Q.Denot) V → Type 0) (out : ℕ → ℕ) (P : Fml) (z : BlockId)
     (id : ℕ) (me : Me (Place R.Denot Q.Denot) V) (last : Last holds out id me.0) where
@@ -41,21 +44,11 @@ module _ {M : Type 1} {𝓤 : Ura M} (𝓛 : Logic 𝓤) (R Q : RattleType) {V :
   abbrev Pr : Type 2
   Pr = SProp 𝓤
 
-  abbrev ⟦◌⟧ : Fml → Pr
-  ⟦ X ⟧ = sem 𝓛 X
+  abbrev 𝓝 : Signs 𝓛
+  𝓝 = signs 𝓛
 
-  abbrev ◌⊢◌ : Pr → Pr → Type 1
-  X ⊢ Y = ent 𝓤 X Y
+  open 𝓝 use {⟦◌⟧, ◌⊢◌, ◌∗◌, ◌-∗◌}
 
-  abbrev ◌∗◌ : Pr → Pr → Pr
-  X ∗ Y = sep 𝓤 X Y
-
-  abbrev ◌-∗◌ : Pr → Pr → Pr
-  X -∗ Y = wand 𝓤 X Y
-
-  infix 26 ◌⊢◌
-  infixr 35 ◌∗◌
-  infixr 30 ◌-∗◌
   abbrev b : ℕ
   b = z.block
 
@@ -82,35 +75,46 @@ module _ {M : Type 1} {𝓤 : Ura M} (𝓛 : Logic 𝓤) (R Q : RattleType) {V :
 
   -- one share is out where this seat is, and the seat is in the roster
   alone_at : (s : State (Place R.Denot Q.Denot) V) → ⟦ Around s ⟧ ∗ ⟦ Mine ⟧ ⊢ guard 𝓤 (holds s × (get_elem? s.views id ≡ maybe.some me.0)) (⟦ Around s ⟧ ∗ ⟦ Mine ⟧)
-  alone_at s = qed 𝓛 (‵ (Around s) ∷ ‵ Mine ∷ []) ∵ fsplit3 ! $ move ! (2 ∷ []) $ fsplit ! $ move ! (1 ∷ []) $ fpick ! (λ so. drop ! $ move ! (3 ∷ []) $ fsplit ! $ move ! (2 ∷ 0 ∷ []) $
-      use2 𝓛 (given (get_elem? s.views id ≡ maybe.some me.0) (‵ (roster cv.code z.views 0 s.views) ⊛ ‵ (seen cv.code z.views id three_quarters me.0))) (seen_at 𝓛 cv z.views s.views id me.0) $ learn ! (λ at. split ! $
+  alone_at s = qed 𝓛 (‵ (Around s) ∷ ‵ Mine ∷ []) ∵ fsplit3 ! $ move ! (2 ∷ []) $ fsplit ! $ move ! (1 ∷ []) $ fpick ! (λ so. drop ! $ move ! (3 ∷ []) $ fsplit ! $
+      move ! (2 ∷ 0 ∷ []) $
+      use2 𝓛 (given (get_elem? s.views id ≡ maybe.some me.0) (‵ (roster cv.code z.views 0 s.views) ⊛ ‵ (seen cv.code z.views id three_quarters me.0))) (seen_at 𝓛 cv z.views s.views id
+      me.0) $ learn ! (λ at. split ! $
       -- [the roster; the view; what the seat carries; the word; the slots and what is lent]
       types.Kit.check ! (so.0, at) $ nothing ! $ fpack ! (Fits holds s) (λ _. ftrue) so $ move ! (1 ∷ 0 ∷ []) $ fjoin ! $ move ! (3 ∷ 4 ∷ 0 ∷ []) $ fjoin3 ! $ frame ! $ fjoin ! $ done !))
 
   module _ (f : ℕ → ℕ) (after : ℕ → Fml) where
     -- no hold: both counts end, and the block
-    ends_all : (s : State (Place R.Denot Q.Denot) V) (h : ℕ) (K : Fml) → h ≡ 0 → out (word_of s) ≡ 1 → (holds s × (get_elem? s.views id ≡ maybe.some me.0)) → ((⟦ Over true ⟧ ∗ ⟦ K ⟧) ⊢ ⟦ after h ⟧)
+    ends_all : (s : State (Place R.Denot Q.Denot) V) (h : ℕ) (K : Fml) → h ≡ 0 → out (word_of s) ≡ 1 → (holds s × (get_elem? s.views id ≡ maybe.some me.0)) →
+        ((⟦ Over true ⟧ ∗ ⟦ K ⟧) ⊢ ⟦ after h ⟧)
         → ⟦ Counts true (word_of s) h ⟧ ∗ ⟦ parts z ⟧ ∗ ⟦ Around s ⟧ ∗ ⟦ K ⟧ ⊢ ⟦ word b o (f h) ⟧ -∗ Ended 𝓛 I b o f after h
-    ends_all s h K none one at gives = let D : Pr = A.dead (life z) in let D' : Pr = A.dead (stay z) in let N : Pr = Ends 𝓛 I b o f after [] h in let N' : Pr = A.lft (stay z) full_share ∗ (D' -∗ N) in
+    ends_all s h K none one at gives = let D : Pr = A.dead (life z) in let D' : Pr = A.dead (stay z) in let N : Pr = Ends 𝓛 I b o f after [] h in let N' : Pr = A.lft (stay z) full_share
+        ∗ (D' -∗ N) in
         qed 𝓛 (‵ (Counts true (word_of s) h) ∷ ‵ (parts z) ∷ ‵ (Around s) ∷ ‵ K ∷ []) ∵ rewrite ! 0 (λ (k : ℕ). ‵ (Counts true (word_of s) k)) none refl $
-        use2 𝓛 (‵ (flft (life z) full_share) ⊛ ‵ (flft (stay z) full_share)) (counting.alone 𝓛 R Q cv holds out P z (word_of s) one) $ split ! $
-        assume ! (‵ (word b o (f h))) $ show ! (λ (ls : List ℕ). Ends 𝓛 I b o f after ls h) (z.age ∷ z.tally ∷ []) $
-        suffices ! _ (upd_i 𝓤 (A.lft (life z) full_share ∗ (D -∗ upd 𝓤 N'))) $ move ! (1 ∷ []) $ frame ! $ assume ! (‵ (fdead (life z))) $ suffices ! _ (upd_i 𝓤 N') $ move ! (2 ∷ []) $ frame ! $ assume ! (‵ (fdead (stay z))) $
+        use2 𝓛 (‵ (flft (life z) full_share) ⊛ ‵ (flft (stay z) full_share)) (counting.alone 𝓛 R Q cv holds out P z (word_of s) one) $ split ! $ assume ! (‵ (word b o (f h))) $
+        show ! (λ (ls : List ℕ). Ends 𝓛 I b o f after ls h) (z.age ∷ z.tally ∷ []) $ suffices ! _ (upd_i 𝓤 (A.lft (life z) full_share ∗ (D -∗ upd 𝓤 N'))) $ move ! (1 ∷ []) $
+        frame ! $ assume ! (‵ (fdead (life z))) $ suffices ! _ (upd_i 𝓤 N') $ move ! (2 ∷ []) $ frame ! $ assume ! (‵ (fdead (stay z))) $
         -- [over; over; the holds; what is around; K]
-        let Z : Pr = ⟦ I ⟧ ∗ ⟦ after h ⟧ in suffices ! _ (upd_i 𝓤 Z) $ move ! (2 ∷ 1 ∷ 0 ∷ 3 ∷ []) $ types.Kit.group ! 4 $ use1 𝓛 (‵ I ⊛ ‵ (Over true)) (over 𝓛 R Q cv holds out P z Seat s (f h) (λ _. at)) $ split ! $ frame ! $ by ! gives
+        let Z : Pr = ⟦ I ⟧ ∗ ⟦ after h ⟧ in suffices ! _ (upd_i 𝓤 Z) $ move ! (2 ∷ 1 ∷ 0 ∷ 3 ∷ []) $ types.Kit.group ! 4 $
+        use1 𝓛 (‵ I ⊛ ‵ (Over true)) (over 𝓛 R Q cv holds out P z Seat s (f h) (λ _. at)) $ split ! $ frame ! $ by ! gives
 
     -- by the holds that are found
-    module _ (next : (s : State (Place R.Denot Q.Denot) V) (h : ℕ) (y : Bool) → eqb h 0 ≡ y → h < 9223372036854775808 → out (word_of s) ≡ 1 → (holds s × (get_elem? s.views id ≡ maybe.some me.0))
+    module _ (next : (s : State (Place R.Denot Q.Denot) V) (h : ℕ) (y : Bool) → eqb h 0 ≡ y → h < 9223372036854775808 → out (word_of s) ≡ 1 →
+        (holds s × (get_elem? s.views id ≡ maybe.some me.0))
         → ⟦ Counts true (word_of s) h ⟧ ∗ ⟦ parts z ⟧ ∗ ⟦ Around s ⟧ ∗ ⟦ Mine ⟧ ⊢ ⟦ word b o (f h) ⟧ -∗ Ended 𝓛 I b o f after h) where
-      law : (y : Bool) (s : State (Place R.Denot Q.Denot) V) (h : ℕ) → h < 18446744073709551616 → ⟦ Counts y (word_of s) h ⟧ ∗ (⟦ parts z ⟧ ∗ ⟦ Mine ⟧) ∗ ⟦ Around s ⟧ ⊢ ⟦ word b o (f h) ⟧ -∗ Ended 𝓛 I b o f after h
-      law false s h small = qed 𝓛 (‵ (Counts false (word_of s) h) ∷ (‵ (parts z) ⊛ ‵ Mine) ∷ ‵ (Around s) ∷ []) ∵ fsplit3 ! $ move ! (1 ∷ []) $ fsplit ! $ move ! (4 ∷ []) $ split ! $ fsplit ! $ keep ! (1 ∷ 4 ∷ []) $ by ! (counting.part_dead 𝓛 z.tally 62 _)
-      law true s h small = qed 𝓛 (‵ (Counts true (word_of s) h) ∷ (‵ (parts z) ⊛ ‵ Mine) ∷ ‵ (Around s) ∷ []) ∵ fsplit ! $ fpick ! (λ few. drop ! $ nothing ! $ fpack ! (h < 9223372036854775808) (λ _. ftrue) few $ fjoin ! $
-          move ! (1 ∷ []) $ split ! $ move ! (3 ∷ 1 ∷ []) $ use2 𝓛 (given (holds s × (get_elem? s.views id ≡ maybe.some me.0)) (‵ (Around s) ⊛ ‵ Mine)) (alone_at s) $ learn ! (λ at. split ! $
+      law : (y : Bool) (s : State (Place R.Denot Q.Denot) V) (h : ℕ) → h < 18446744073709551616 → ⟦ Counts y (word_of s) h ⟧ ∗ (⟦ parts z ⟧ ∗ ⟦ Mine ⟧) ∗ ⟦ Around s ⟧
+          ⊢ ⟦ word b o (f h) ⟧ -∗ Ended 𝓛 I b o f after h
+      law false s h small = qed 𝓛 (‵ (Counts false (word_of s) h) ∷ (‵ (parts z) ⊛ ‵ Mine) ∷ ‵ (Around s) ∷ []) ∵ fsplit3 ! $ move ! (1 ∷ []) $ fsplit ! $ move ! (4 ∷ []) $
+          split ! $ fsplit ! $ keep ! (1 ∷ 4 ∷ []) $ by ! (counting.part_dead 𝓛 z.tally 62 _)
+      law true s h small = qed 𝓛 (‵ (Counts true (word_of s) h) ∷ (‵ (parts z) ⊛ ‵ Mine) ∷ ‵ (Around s) ∷ []) ∵ fsplit ! $ fpick ! (λ few. drop ! $ nothing ! $
+          fpack ! (h < 9223372036854775808) (λ _. ftrue) few $ fjoin ! $
+          move ! (1 ∷ []) $ split ! $ move ! (3 ∷ 1 ∷ []) $ use2 𝓛 (given (holds s × (get_elem? s.views id ≡ maybe.some me.0)) (‵ (Around s) ⊛ ‵ Mine)) (alone_at s) $
+          learn ! (λ at. split ! $
           -- [what is around; the seat; the parts; the counts]
           move ! (3 ∷ 2 ∷ 0 ∷ 1 ∷ []) $ by ! (next s h (eqb h 0) refl few (last s at.0 at.1) at)))
 
       here : (Z : Pr) → (⟦ parts z ⟧ ∗ ⟦ Mine ⟧) ∗ A.dead (life z) ∗ A.dead (stay z) ⊢ Z
-      here Z = qed 𝓛 ((‵ (parts z) ⊛ ‵ Mine) ∷ ‵ (fdead (life z)) ∷ ‵ (fdead (stay z)) ∷ []) ∵ split ! $ fsplit ! $ keep ! (0 ∷ 3 ∷ []) $ by ! (counting.part_dead 𝓛 z.age 64 Z)
+      here Z = qed 𝓛 ((‵ (parts z) ⊛ ‵ Mine) ∷ ‵ (fdead (life z)) ∷ ‵ (fdead (stay z)) ∷ []) ∵ split ! $ fsplit ! $ keep ! (0 ∷ 3 ∷ []) $
+          by ! (counting.part_dead 𝓛 z.age 64 Z)
 
       by_holds : A.inv I ∗ ⟦ parts z ⟧ ∗ ⟦ Mine ⟧ ⊢ asks 𝓛 (block_ptr b o) f always after
       by_holds = opened 𝓛 R Q cv holds out P z f after (⟦ parts z ⟧ ∗ ⟦ Mine ⟧) here law
@@ -122,13 +126,16 @@ module _ {M : Type 1} {𝓤 : Ura M} (𝓛 : Logic 𝓤) (R Q : RattleType) {V :
   abbrev still : ℕ → ℕ
   still n = n
 
-  look_next : (s : State (Place R.Denot Q.Denot) V) (h : ℕ) (y : Bool) → eqb h 0 ≡ y → h < 9223372036854775808 → out (word_of s) ≡ 1 → (holds s × (get_elem? s.views id ≡ maybe.some me.0))
+  look_next : (s : State (Place R.Denot Q.Denot) V) (h : ℕ) (y : Bool) → eqb h 0 ≡ y → h < 9223372036854775808 → out (word_of s) ≡ 1 → (holds s × (get_elem? s.views id ≡ maybe.some
+      me.0))
       → ⟦ Counts true (word_of s) h ⟧ ∗ ⟦ parts z ⟧ ∗ ⟦ Around s ⟧ ∗ ⟦ Mine ⟧ ⊢ ⟦ word b o h ⟧ -∗ Ended 𝓛 I b o still looked h
   look_next s h true e few one at = ends_all still looked s h Mine (is_eq h 0 e) one at (qed 𝓛 (‵ (Over true) ∷ ‵ Mine ∷ []) ∵
       fjoin ! $ nothing ! $ fjoin ! $ rewrite ! 0 (λ (y : Bool). ‵ (fsep (parts_if (not y) z) (fsep (Over y) Mine))) (sym e) refl $ done !)
-  look_next s h false e few one at = qed 𝓛 (‵ (Counts true (word_of s) h) ∷ ‵ (parts z) ∷ ‵ (Around s) ∷ ‵ Mine ∷ []) ∵ assume ! (‵ (word b o h)) $ show ! (λ (ls : List ℕ). Ends 𝓛 I b o still looked ls h) [] $
+  look_next s h false e few one at = qed 𝓛 (‵ (Counts true (word_of s) h) ∷ ‵ (parts z) ∷ ‵ (Around s) ∷ ‵ Mine ∷ []) ∵ assume ! (‵ (word b o h)) $
+      show ! (λ (ls : List ℕ). Ends 𝓛 I b o still looked ls h) [] $
       -- [the holds; the counts; the parts; what is around; the seat]
-      nothing ! $ move ! (0 ∷ 5 ∷ []) $ fjoin ! $ move ! (3 ∷ 0 ∷ []) $ fjoin ! $ rewrite ! 0 (λ (y : Bool). ‵ (fsep (parts_if (not y) z) (fsep (Over y) Mine))) (sym e) refl $ move ! (1 ∷ 2 ∷ 3 ∷ 0 ∷ []) $ by ! (goes_on 𝓛 R Q cv holds out P z still looked true s h h refl)
+      nothing ! $ move ! (0 ∷ 5 ∷ []) $ fjoin ! $ move ! (3 ∷ 0 ∷ []) $ fjoin ! $ rewrite ! 0 (λ (y : Bool). ‵ (fsep (parts_if (not y) z) (fsep (Over y) Mine))) (sym e) refl $
+      move ! (1 ∷ 2 ∷ 3 ∷ 0 ∷ []) $ by ! (goes_on 𝓛 R Q cv holds out P z still looked true s h h refl)
 
   pub looks_last : A.inv I ∗ ⟦ parts z ⟧ ∗ ⟦ Mine ⟧ ⊢ asks 𝓛 (block_ptr b o) (λ n. n) always looked
   looks_last = by_holds still looked look_next
@@ -140,16 +147,20 @@ module _ {M : Type 1} {𝓤 : Ura M} (𝓛 : Logic 𝓤) (R Q : RattleType) {V :
   abbrev pub left : ℕ → Fml
   left n = fsep (Over (eqb n 0)) Mine
 
-  leave_next : (s : State (Place R.Denot Q.Denot) V) (h : ℕ) (y : Bool) → eqb h 0 ≡ y → h < 9223372036854775808 → out (word_of s) ≡ 1 → (holds s × (get_elem? s.views id ≡ maybe.some me.0))
+  leave_next : (s : State (Place R.Denot Q.Denot) V) (h : ℕ) (y : Bool) → eqb h 0 ≡ y → h < 9223372036854775808 → out (word_of s) ≡ 1 → (holds s × (get_elem? s.views id ≡ maybe.some
+      me.0))
       → ⟦ Counts true (word_of s) h ⟧ ∗ ⟦ parts z ⟧ ∗ ⟦ Around s ⟧ ∗ ⟦ Mine ⟧ ⊢ ⟦ word b o (more h) ⟧ -∗ Ended 𝓛 I b o more left h
-  leave_next s h true e few one at = ends_all more left s h Mine (is_eq h 0 e) one at (qed 𝓛 (‵ (Over true) ∷ ‵ Mine ∷ []) ∵ fjoin ! $ rewrite ! 0 (λ (y : Bool). ‵ (fsep (Over y) Mine)) (sym e) refl $ done !)
-  leave_next s h false e few one at = let D' : Pr = A.dead (stay z) in let N : Pr = Ends 𝓛 I b o more left [] h in let C : Fml = Counts false (word_of s) (h + 9223372036854775808) in let is : more h ≡ h + 9223372036854775808 = omega arith in
-      qed 𝓛 (‵ (Counts true (word_of s) h) ∷ ‵ (parts z) ∷ ‵ (Around s) ∷ ‵ Mine ∷ []) ∵
-      use2 𝓛 (given (h < 9223372036854775808) (‵ (flft (stay z) full_share) ⊛ raw (D' -∗ ⟦ C ⟧))) (counting.departs 𝓛 R Q cv holds out P z (word_of s) h one (positive h (not_eq h 0 e))) $ learn ! (λ _. split ! $
-      assume ! (‵ (word b o (more h))) $ show ! (λ (ls : List ℕ). Ends 𝓛 I b o more left ls h) (z.tally ∷ []) $ suffices ! _ (upd_i 𝓤 (A.lft (stay z) full_share ∗ (D' -∗ N))) $ move ! (1 ∷ []) $ frame ! $ assume ! (‵ (fdead (stay z))) $
+  leave_next s h true e few one at = ends_all more left s h Mine (is_eq h 0 e) one at (qed 𝓛 (‵ (Over true) ∷ ‵ Mine ∷ []) ∵ fjoin ! $
+      rewrite ! 0 (λ (y : Bool). ‵ (fsep (Over y) Mine)) (sym e) refl $ done !)
+  leave_next s h false e few one at = let D' : Pr = A.dead (stay z) in let N : Pr = Ends 𝓛 I b o more left [] h in let C : Fml = Counts false (word_of s) (h + 9223372036854775808) in
+      let is : more h ≡ h + 9223372036854775808 = omega arith in
+      qed 𝓛 (‵ (Counts true (word_of s) h) ∷ ‵ (parts z) ∷ ‵ (Around s) ∷ ‵ Mine ∷ []) ∵ use2 𝓛 (given (h < 9223372036854775808) (‵ (flft (stay z) full_share) ⊛
+      raw (D' -∗ ⟦ C ⟧))) (counting.departs 𝓛 R Q cv holds out P z (word_of s) h one (positive h (not_eq h 0 e))) $ learn ! (λ _. split ! $ assume ! (‵ (word b o (more h))) $
+      show ! (λ (ls : List ℕ). Ends 𝓛 I b o more left ls h) (z.tally ∷ []) $ suffices ! _ (upd_i 𝓤 (A.lft (stay z) full_share ∗ (D' -∗ N))) $ move ! (1 ∷ []) $ frame ! $
+      assume ! (‵ (fdead (stay z))) $
       -- [over; the holds; the counts' way; what is around; the seat]
-      move ! (0 ∷ 2 ∷ []) $ use2 𝓛 (‵ C) (base.Logic.apply∗ 𝓤 D' ⟦ C ⟧) $ nothing ! $ move ! (0 ∷ 4 ∷ []) $ fjoin ! $ rewrite ! 0 (λ (y : Bool). ‵ (fsep (Over y) Mine)) (sym e) refl $
-      move ! (2 ∷ 1 ∷ 3 ∷ 0 ∷ []) $ by ! (goes_on 𝓛 R Q cv holds out P z more left false s h (h + 9223372036854775808) is))
+      move ! (0 ∷ 2 ∷ []) $ use2 𝓛 (‵ C) (base.Logic.apply∗ 𝓤 D' ⟦ C ⟧) $ nothing ! $ move ! (0 ∷ 4 ∷ []) $ fjoin ! $ rewrite ! 0 (λ (y : Bool). ‵ (fsep (Over y) Mine))
+      (sym e) refl $ move ! (2 ∷ 1 ∷ 3 ∷ 0 ∷ []) $ by ! (goes_on 𝓛 R Q cv holds out P z more left false s h (h + 9223372036854775808) is))
     where
       positive : (n : ℕ) → ¬ (n ≡ 0) → 0 < n
       positive n ne = omega (arith, ne)

@@ -6,10 +6,11 @@ use seplogic.Ra.Ura.{Ura}
 use mir.Syntax.{Ty}
 use base.Fraction.{full_share}
 use base.Stored.{Coded}
-use base.Logic.{SProp, ent, sep, ex, guard, never_e}
+use base.Logic.{SProp, ex, guard, never_e}
 use base.Fml.{Fml, ftrue, ffalse, fdead}
-use types.Logic.{Logic, sem}
-use types.Kit.{‵, ◌⊛◌, some, given, later, ◌$◌, ◌∵◌, !, qed, by, move, keep, drop, split, fsplit, fsplit3, fjoin, fpick, pick, learn, show, check, use1, use2, use3, await, updating, now, done}
+use types.Logic.{Logic}
+use types.Kit.{‵, ◌⊛◌, some, given, later, ◌$◌, ◌∵◌, !, qed, by, move, keep, drop, split, fsplit, fsplit3, fjoin, fpick, pick, learn, show, check, use1, use2, use3, await, now}
+use types.Kit.{updating, done}
 use types.Tokens.{lent_back, name_agree}
 use denote.RattleType.{RattleType}
 use denote.Memory.{part_at}
@@ -20,6 +21,7 @@ use Rattle.counted_block.specs.declared.place.Place.TheVariants.{First, Second}
 use Rattle.counted_block.specs.Layout.{at_first, at_second}
 use Rattle.counted_block.specs.Blocks.{BlockId, life, word_of, Known, first_body, second_body, tracked, home, shelf, owed, words_in, remaining}
 use Rattle.counted_block.specs.Held.{slots_there, content}
+use Rattle.counted_block.proofs.Signs.{Signs, signs}
 
 only_word : (ns : List ℕ) → length ns ≡ 1 → ns ≡ get_or ns 0 0 ∷ []
 only_word [] l = absurd (omega arith)
@@ -45,17 +47,11 @@ module _ {M : Type 1} {𝓤 : Ura M} (𝓛 : Logic 𝓤) (R Q T : RattleType) (t
   abbrev Pr : Type 2
   Pr = SProp 𝓤
 
-  abbrev ⟦◌⟧ : Fml → Pr
-  ⟦ P ⟧ = sem 𝓛 P
+  abbrev 𝓝 : Signs 𝓛
+  𝓝 = signs 𝓛
 
-  abbrev ◌⊢◌ : Pr → Pr → Type 1
-  P ⊢ Q = ent 𝓤 P Q
+  open 𝓝 use {⟦◌⟧, ◌⊢◌, ◌∗◌}
 
-  abbrev ◌∗◌ : Pr → Pr → Pr
-  P ∗ Q = sep 𝓤 P Q
-
-  infix 26 ◌⊢◌
-  infixr 35 ◌∗◌
   abbrev S : Type 0
   S = Place R.Denot Q.Denot
 
@@ -63,19 +59,25 @@ module _ {M : Type 1} {𝓤 : Ura M} (𝓛 : Logic 𝓤) (R Q T : RattleType) (t
   FirstHad h x = guard 𝓤 ((u : S) → h ≡ maybe.some u → First x ≡ u) ⟦ part_at R full_share x z.block (z.offset + at_first R) ⟧
 
   first_back : (h : maybe.Option S) → ⟦ first_body R Q z ⟧ ∗ ⟦ home R Q z 0 h ⟧ ⊢ ex 𝓤 (FirstHad h)
-  first_back maybe.none = qed 𝓛 (‵ (first_body R Q z) ∷ ‵ ftrue ∷ []) ∵ fpick ! (λ x. fsplit ! $ show ! (FirstHad maybe.none) x $ check ! (λ u e. absurd (maybe.some-ne-none u (sym e))) $ keep ! (0 ∷ []) $ done !)
-  first_back (maybe.some (First y)) = qed 𝓛 (‵ (first_body R Q z) ∷ ‵ (tracked R Q z 0 (First y)) ∷ []) ∵ fpick ! (λ x. fsplit ! $ move ! (2 ∷ []) $ fsplit ! $ move ! (0 ∷ 3 ∷ []) $ name_agree ! R.coded (λ same.
+  first_back maybe.none = qed 𝓛 (‵ (first_body R Q z) ∷ ‵ ftrue ∷ []) ∵ fpick ! (λ x. fsplit ! $ show ! (FirstHad maybe.none) x $
+      check ! (λ u e. absurd (maybe.some-ne-none u (sym e))) $ keep ! (0 ∷ []) $ done !)
+  first_back (maybe.some (First y)) = qed 𝓛 (‵ (first_body R Q z) ∷ ‵ (tracked R Q z 0 (First y)) ∷ []) ∵ fpick ! (λ x. fsplit ! $ move ! (2 ∷ []) $ fsplit ! $
+      move ! (0 ∷ 3 ∷ []) $ name_agree ! R.coded (λ same.
       show ! (FirstHad (maybe.some (First y))) x $ check ! (λ u e. ap First (sym same) ∙ maybe.some-injective (First y) u e) $ keep ! (3 ∷ []) $ done !))
-  first_back (maybe.some (Second y)) = qed 𝓛 (‵ (first_body R Q z) ∷ ‵ ffalse ∷ []) ∵ move ! (1 ∷ []) $ keep ! (0 ∷ []) $ by ! (never_e 𝓤 (ex 𝓤 (FirstHad (maybe.some (Second y)))))
+  first_back (maybe.some (Second y)) = qed 𝓛 (‵ (first_body R Q z) ∷ ‵ ffalse ∷ []) ∵ move ! (1 ∷ []) $ keep ! (0 ∷ []) $
+      by ! (never_e 𝓤 (ex 𝓤 (FirstHad (maybe.some (Second y)))))
 
   abbrev SecondHad : maybe.Option S → Q.Denot → Pr
   SecondHad h x = guard 𝓤 ((u : S) → h ≡ maybe.some u → Second x ≡ u) ⟦ part_at Q full_share x z.block (z.offset + at_second R Q) ⟧
 
   second_back : (h : maybe.Option S) → ⟦ second_body R Q z ⟧ ∗ ⟦ home R Q z 1 h ⟧ ⊢ ex 𝓤 (SecondHad h)
-  second_back maybe.none = qed 𝓛 (‵ (second_body R Q z) ∷ ‵ ftrue ∷ []) ∵ fpick ! (λ x. fsplit ! $ show ! (SecondHad maybe.none) x $ check ! (λ u e. absurd (maybe.some-ne-none u (sym e))) $ keep ! (0 ∷ []) $ done !)
-  second_back (maybe.some (Second y)) = qed 𝓛 (‵ (second_body R Q z) ∷ ‵ (tracked R Q z 1 (Second y)) ∷ []) ∵ fpick ! (λ x. fsplit ! $ move ! (2 ∷ []) $ fsplit ! $ move ! (0 ∷ 3 ∷ []) $ name_agree ! Q.coded (λ same.
+  second_back maybe.none = qed 𝓛 (‵ (second_body R Q z) ∷ ‵ ftrue ∷ []) ∵ fpick ! (λ x. fsplit ! $ show ! (SecondHad maybe.none) x $
+      check ! (λ u e. absurd (maybe.some-ne-none u (sym e))) $ keep ! (0 ∷ []) $ done !)
+  second_back (maybe.some (Second y)) = qed 𝓛 (‵ (second_body R Q z) ∷ ‵ (tracked R Q z 1 (Second y)) ∷ []) ∵ fpick ! (λ x. fsplit ! $ move ! (2 ∷ []) $ fsplit ! $
+      move ! (0 ∷ 3 ∷ []) $ name_agree ! Q.coded (λ same.
       show ! (SecondHad (maybe.some (Second y))) x $ check ! (λ u e. ap Second (sym same) ∙ maybe.some-injective (Second y) u e) $ keep ! (3 ∷ []) $ done !))
-  second_back (maybe.some (First y)) = qed 𝓛 (‵ (second_body R Q z) ∷ ‵ ffalse ∷ []) ∵ move ! (1 ∷ []) $ keep ! (0 ∷ []) $ by ! (never_e 𝓤 (ex 𝓤 (SecondHad (maybe.some (First y)))))
+  second_back (maybe.some (First y)) = qed 𝓛 (‵ (second_body R Q z) ∷ ‵ ffalse ∷ []) ∵ move ! (1 ∷ []) $ keep ! (0 ∷ []) $
+      by ! (never_e 𝓤 (ex 𝓤 (SecondHad (maybe.some (First y)))))
 
   abbrev Slots : R.Denot × Q.Denot → Fml
   Slots = slots_there R Q T t z v
@@ -94,10 +96,12 @@ module _ {M : Type 1} {𝓤 : Ura M} (𝓛 : Logic 𝓤) (R Q T : RattleType) (t
       -- [over, twice; the slots; the rights]
       move ! (3 ∷ []) $ fsplit ! $ move ! (4 ∷ []) $ fsplit3 ! $ move ! (2 ∷ []) $ drop ! $
       -- [the homes, two; the rights, two; over, twice]
-      move ! (4 ∷ 2 ∷ []) $ lent_back ! tt $ move ! (0 ∷ 1 ∷ []) $ use2 𝓛 (some (λ (x : R.Denot). given ((u : S) → a ≡ maybe.some u → First x ≡ u) (‵ (part_at R full_share x z.block (z.offset + at_first R))))) (first_back a) $ pick ! (λ x. learn ! (λ ha.
+      move ! (4 ∷ 2 ∷ []) $ lent_back ! tt $ move ! (0 ∷ 1 ∷ []) $ use2 𝓛 (some (λ (x : R.Denot). given ((u : S) → a ≡ maybe.some u → First x ≡ u) (‵ (part_at R full_share x
+      z.block (z.offset + at_first R))))) (first_back a) $ pick ! (λ x. learn ! (λ ha.
       -- [the first; the second's home; its right; over]
-      move ! (3 ∷ 2 ∷ []) $ lent_back ! tt $ move ! (0 ∷ 2 ∷ []) $ use2 𝓛 (some (λ (y : Q.Denot). given ((u : S) → b ≡ maybe.some u → Second y ≡ u) (‵ (part_at Q full_share y z.block (z.offset + at_second R Q))))) (second_back b) $ pick ! (λ y. learn ! (λ hb.
-      move ! (1 ∷ 0 ∷ []) $ fjoin ! $ now ! $ show ! (All (a ∷ b ∷ [])) (x, y) $ check ! (tied a b (First x) (Second y) ha hb) $ done !))))
+      move ! (3 ∷ 2 ∷ []) $ lent_back ! tt $ move ! (0 ∷ 2 ∷ []) $ use2 𝓛 (some (λ (y : Q.Denot). given ((u : S) → b ≡ maybe.some u → Second y ≡ u) (‵ (part_at Q full_share y
+      z.block (z.offset + at_second R Q))))) (second_back b) $ pick ! (λ y. learn ! (λ hb. move ! (1 ∷ 0 ∷ []) $ fjoin ! $ now ! $ show ! (All (a ∷ b ∷ [])) (x, y) $
+      check ! (tied a b (First x) (Second y) ha hb) $ done !))))
   all_back (a ∷ b ∷ c ∷ hs) l = absurd (omega arith)
 
   module _ {V : Type 0} (cv : Coded V) (holds : State S V → Type 0) (out : ℕ → ℕ) (seat : maybe.Option (ℕ × V)) (s : State S V) (h : ℕ) where
@@ -108,7 +112,8 @@ module _ {M : Type 1} {𝓤 : Ura M} (𝓛 : Logic 𝓤) (R Q T : RattleType) (t
     Gathered m = guard 𝓤 (Final (Known holds seat) (word_of s ∷ []) (First m.0 ∷ Second m.1 ∷ [])) (⟦ words_in z (word_of s) h ⟧ ∗ ⟦ Slots m ⟧ ∗ ⟦ P ⟧)
 
     pub gathers : ⟦ remaining R Q cv.code holds out P z seat (s, h) ⟧ ⊢ H.⇛ (ex 𝓤 Gathered)
-    gathers = qed 𝓛 (‵ (remaining R Q cv.code holds out P z seat (s, h)) ∷ []) ∵ updating ! $ fsplit3 ! $ move ! (2 ∷ []) $ fpick ! (λ so. drop ! $ move ! (1 ∷ []) $ fsplit3 ! $ move ! (2 ∷ []) $ fsplit ! $
+    gathers = qed 𝓛 (‵ (remaining R Q cv.code holds out P z seat (s, h)) ∷ []) ∵ updating ! $ fsplit3 ! $ move ! (2 ∷ []) $ fpick ! (λ so. drop ! $ move ! (1 ∷ []) $ fsplit3 ! $
+        move ! (2 ∷ []) $ fsplit ! $
         -- [the right to the value; the rights to the slots; over; the slots; the words]
         move ! (2 ∷ []) $ use1 𝓛 (‵ (fdead (life z)) ⊛ ‵ (fdead (life z))) (𝓛.lfts.dead_dup (life z)) $ split ! $ move ! (0 ∷ 4 ∷ 3 ∷ []) $
         use3 𝓛 (later (some (λ (m : R.Denot × Q.Denot). given (Kept s.homes m) (‵ (Slots m))))) (all_back s.homes so.2) $ await ! tt $ pick ! (λ m. learn ! (λ tie.

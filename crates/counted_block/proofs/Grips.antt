@@ -47,22 +47,25 @@ module _ {M : Type 1} {𝓤 : Ura M} (𝓛 : Logic 𝓤) (γ : ℕ) where
 
   pub takes : (h : ℕ) → h + 1 < 9223372036854775808 → ent 𝓤 (sem 𝓛 (grips_left γ h)) (sep 𝓤 (sem 𝓛 (grips_left γ (h + 1))) (sem 𝓛 (grip γ)))
   takes h room = let e = counts_some 63 1 (omega arith) (omega arith) in let r' = some_parts (h + 1) room in
-      qed 𝓛 (‵ (grips_left γ h) ∷ []) ∵ fpick ! (λ r. fpick ! (λ f. let f1 = f.1 in
-      use1 𝓛 (‵ (gripped γ e.0) ⊛ ‵ (gripped γ r'.0)) (entry_cut halved 𝓛 γ 0 (e.0, v) (r'.0, v) (r, v) (together e.0 r'.0 r (Counts-op 63 e.0 r'.0 r 1 (9223372036854775808 - (h + 1)) (9223372036854775808 - h) e.1 r'.1.1 f.1 (omega arith)))) $ split ! $
+      qed 𝓛 (‵ (grips_left γ h) ∷ []) ∵ fpick ! (λ r. fpick ! (λ f. let f1 = f.1 in use1 𝓛 (‵ (gripped γ e.0) ⊛ ‵ (gripped γ r'.0)) (entry_cut halved 𝓛 γ 0 (e.0, v)
+      (r'.0, v) (r, v) (together e.0 r'.0 r (Counts-op 63 e.0 r'.0 r 1 (9223372036854775808 - (h + 1)) (9223372036854775808 - h) e.1 r'.1.1 f.1 (omega arith)))) $ split ! $
       use1 𝓛 (‵ (grip γ)) (grip_in e.0 e.1) $ move ! (1 ∷ []) $ use1 𝓛 (‵ (grips_left γ (h + 1))) (left_in (h + 1) r'.0 r'.1) $ done !))
 
   glued : (h : ℕ) (r e : Share) → Free h r → Counts 63 e 1 → 0 < h → ent 𝓤 (sep 𝓤 (sem 𝓛 (gripped γ e)) (sem 𝓛 (gripped γ r))) (sem 𝓛 (grips_left γ (h - 1)))
-  glued h r e f c some_out = let near = f.0 in let r' = some_parts (h - 1) (omega arith) in let F : Share × Gv → SProp 𝓤 = λ x. guard 𝓤 (x ∈ halved.op (e, v) (r, v)) (sem 𝓛 (entry halved γ 0 x)) in
-      let is : ◌∈◌ {α = Share × Gv} (r'.0, v) (halved.op (e, v) (r, v)) = together e r r'.0 (Counts-op 63 e r r'.0 1 (9223372036854775808 - h) (9223372036854775808 - (h - 1)) c f.1 r'.1.1 (omega arith)) in
-      via 𝓤 (ex 𝓤 F) (entry_glue halved 𝓛 γ 0 (e, v) (r, v)) (ex_e 𝓤 F (λ x. guard_e 𝓤 (x ∈ halved.op (e, v) (r, v)) (sem 𝓛 (entry halved γ 0 x)) (λ m.
-      subst (λ (y : Share × Gv). ent 𝓤 (sem 𝓛 (entry halved γ 0 y)) (sem 𝓛 (grips_left γ (h - 1)))) (mem_unique (halved.op (e, v) (r, v)) is m) (left_in (h - 1) r'.0 r'.1))))
+  glued h r e f c some_out = let near = f.0 in let r' = some_parts (h - 1) (omega arith) in let F : Share × Gv → SProp 𝓤 = λ x. guard 𝓤 (x ∈ halved.op (e, v) (r, v))
+      (sem 𝓛 (entry halved γ 0 x)) in
+      let is : ◌∈◌ {α = Share × Gv} (r'.0, v) (halved.op (e, v) (r, v)) = together e r r'.0 (Counts-op 63 e r r'.0 1 (9223372036854775808 - h) (9223372036854775808 - (h - 1)) c f.1 r'.1.1
+      (omega arith)) in via 𝓤 (ex 𝓤 F) (entry_glue halved 𝓛 γ 0 (e, v) (r, v)) (ex_e 𝓤 F (λ x. guard_e 𝓤 (x ∈ halved.op (e, v) (r, v)) (sem 𝓛 (entry halved γ 0 x))
+      (λ m. subst (λ (y : Share × Gv). ent 𝓤 (sem 𝓛 (entry halved γ 0 y)) (sem 𝓛 (grips_left γ (h - 1)))) (mem_unique (halved.op (e, v) (r, v)) is m) (left_in (h - 1) r'.0 r'.1))))
 
   never_none : (r e : Share) (Z : SProp 𝓤) → r ≡ full_share → ent 𝓤 (sep 𝓤 (sem 𝓛 (gripped γ e)) (sem 𝓛 (gripped γ r))) Z
   never_none r e Z whole = let F : Share × Gv → SProp 𝓤 = λ x. guard 𝓤 (x ∈ halved.op (e, v) (r, v)) (sem 𝓛 (entry halved γ 0 x)) in
-      via 𝓤 (ex 𝓤 F) (entry_glue halved 𝓛 γ 0 (e, v) (r, v)) (ex_e 𝓤 F (λ x. guard_e 𝓤 (x ∈ halved.op (e, v) (r, v)) (sem 𝓛 (entry halved γ 0 x)) (λ m. absurd (beside (m.0.0)))))
+      via 𝓤 (ex 𝓤 F) (entry_glue halved 𝓛 γ 0 (e, v) (r, v)) (ex_e 𝓤 F (λ x. guard_e 𝓤 (x ∈ halved.op (e, v) (r, v)) (sem 𝓛 (entry halved γ 0 x))
+      (λ m. absurd (beside (m.0.0)))))
     where
       beside : seplogic.Ra.Pcs.OpDef Share.op e r → ⊥
-      beside d = not-OpDef-full_share e ((seplogic.Ra.Pcs.OpDef-comm (base.Algebras.pcs base.Algebras.shares) {a = e} {b = full_share}).0 (subst (λ (s : Share). seplogic.Ra.Pcs.OpDef Share.op e s) whole d))
+      beside d = not-OpDef-full_share e ((seplogic.Ra.Pcs.OpDef-comm (base.Algebras.pcs base.Algebras.shares) {a = e} {b = full_share}).0 (subst (λ (s : Share). seplogic.Ra.Pcs.OpDef Share.op e s)
+          whole d))
 
   abbrev pub Given : ℕ → SProp 𝓤
   Given h = guard 𝓤 (0 < h) (sem 𝓛 (grips_left γ (h - 1)))
@@ -75,13 +78,16 @@ module _ {M : Type 1} {𝓤 : Ura M} (𝓛 : Logic 𝓤) (γ : ℕ) where
       positive n ne = omega (arith, ne)
 
   pub gives : (h : ℕ) → ent 𝓤 (sep 𝓤 (sem 𝓛 (grips_left γ h)) (sem 𝓛 (grip γ))) (Given h)
-  gives h = qed 𝓛 (‵ (grips_left γ h) ∷ ‵ (grip γ) ∷ []) ∵ fpick ! (λ r. fpick ! (λ f. move ! (1 ∷ []) $ fpick ! (λ e. fpick ! (λ c. by ! (gives_by h r e f c (ℕ_discrete h 0))))))
+  gives h = qed 𝓛 (‵ (grips_left γ h) ∷ ‵ (grip γ) ∷ []) ∵ fpick ! (λ r. fpick ! (λ f. move ! (1 ∷ []) $
+      fpick ! (λ e. fpick ! (λ c. by ! (gives_by h r e f c (ℕ_discrete h 0))))))
 
 module _ {M : Type 1} {𝓤 : Ura M} (𝓛 : Logic 𝓤) where
   abbrev Begun : ℕ → SProp 𝓤
   Begun γ = sem 𝓛 (grips_left γ 0)
 
   pub begins : ent 𝓤 (emp 𝓤) (upd 𝓤 (ex 𝓤 Begun))
-  begins = let Z : SProp 𝓤 = ex 𝓤 Begun in qed 𝓛 [] ∵ use0 𝓛 (raw (upd 𝓤 (ex 𝓤 (λ (γ : ℕ). sem 𝓛 (types.Keyed.entries_from halved γ 0 (λ _. (full_share, v))))))) (entries_new halved 𝓛 0 (λ _. (full_share, v))) $
-      settle 𝓛 Z (some (λ (γ : ℕ). ‵ (types.Keyed.entries_from halved γ 0 (λ _. (full_share, v))))) $ suffices ! _ (base.Logic.upd_i 𝓤 Z) $ pick ! (λ γ. use1 𝓛 (‵ (gripped γ full_share) ⊛ ‵ (types.Keyed.entries_from halved γ 1 (λ _. (full_share, v)))) (entries_take halved 𝓛 γ 0 (λ _. (full_share, v))) $ split ! $ keep ! (0 ∷ []) $
-      show ! Begun γ $ by ! (none_out 𝓛 γ))
+  begins = let Z : SProp 𝓤 = ex 𝓤 Begun in qed 𝓛 [] ∵ use0 𝓛 (raw (upd 𝓤 (ex 𝓤 (λ (γ : ℕ). sem 𝓛 (types.Keyed.entries_from halved γ 0 (λ _. (full_share, v)))))))
+      (entries_new halved 𝓛 0 (λ _. (full_share, v))) $
+      settle 𝓛 Z (some (λ (γ : ℕ). ‵ (types.Keyed.entries_from halved γ 0 (λ _. (full_share, v))))) $ suffices ! _ (base.Logic.upd_i 𝓤 Z) $
+      pick ! (λ γ. use1 𝓛 (‵ (gripped γ full_share) ⊛ ‵ (types.Keyed.entries_from halved γ 1 (λ _. (full_share, v)))) (entries_take halved 𝓛 γ 0 (λ _. (full_share, v))) $ split ! $
+      keep ! (0 ∷ []) $ show ! Begun γ $ by ! (none_out 𝓛 γ))

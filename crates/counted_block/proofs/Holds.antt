@@ -1,5 +1,6 @@
 -- A step on the holds: one more, and one less, which may be the last. Assumes `Logic`.
-use Rattle.std.proofs.Common.{◌≡◌, ℕ, ◌+◌, ◌-◌, ◌%◌, ◌^◌, ◌<◌, ◌≤◌, Bool, true, false, eqb, eqb→eq, List, [], ◌∷◌, length, sym, refl, ap, ◌∙◌, subst, arith, w64}
+use Rattle.std.proofs.Common.{◌≡◌, ℕ, ◌+◌, ◌-◌, ◌%◌, ◌^◌, ◌<◌, ◌≤◌, Bool, true, false, eqb, eqb→eq, List, [], ◌∷◌, length, sym, refl, ap, ◌∙◌, subst}
+use Rattle.std.proofs.Common.{arith, w64}
 use mathlib.Core.Bool.{not}
 use mathlib.Core.Logic.{dite}
 use mathlib.Core.Option.{Option, none}
@@ -9,11 +10,12 @@ use mir.Syntax.{ty_int}
 use mir.Val.{vint, has_ty, WT}
 use base.Fraction.{full_share}
 use base.Stored.{Coded}
-use base.Logic.{SProp, ent, sep, wand, ex, upd, upd_i}
+use base.Logic.{SProp, ex, upd, upd_i}
 use base.Fml.{Share, Fml, ftrue, fsep, flft, fdead}
 use prog.Atomic.{bump}
-use types.Logic.{Logic, sem}
-use types.Kit.{‵, raw, ◌⊛◌, given, ◌$◌, ◌∵◌, !, qed, by, move, keep, drop, split, split3, fsplit, fsplit3, fjoin, fjoin3, fpick, fpack, learn, show, check, frame, assume, suffices, done, use1, use2, rewrite}
+use types.Logic.{Logic}
+use types.Kit.{‵, raw, ◌⊛◌, given, ◌$◌, ◌∵◌, !, qed, by, move, keep, drop, split, split3, fsplit, fsplit3, fjoin, fjoin3, fpick, fpack, learn, show, check, frame, assume, suffices}
+use types.Kit.{done, use1, use2, rewrite}
 use types.RcWeak.{part, rest}
 use types.RcWeak as counts
 use denote.RattleType.{RattleType}
@@ -23,9 +25,11 @@ use Rattle.std.specs.Sync.RawAtomic.{asks, always}
 use Rattle.atomic_table.specs.Table.{State}
 use Rattle.atomic_table.specs.Seated.{word}
 use Rattle.counted_block.specs.declared.place.Place.{Place}
-use Rattle.counted_block.specs.Blocks.{BlockId, life, stay, grips_left, hold_parts, hold_parts_if, word_of, Fits, Known, shelf, views_in, counted, lent, standing, ghostly, stands, block, remaining, remains, remains_if}
+use Rattle.counted_block.specs.Blocks.{BlockId, life, stay, grips_left, hold_parts, hold_parts_if, word_of, Fits, Known, shelf, views_in, counted, lent, standing, ghostly, stands, block, remaining}
+use Rattle.counted_block.specs.Blocks.{remains, remains_if}
 use Rattle.counted_block.proofs.Opening.{Lies, Ends, Ended, entered}
 use Rattle.counted_block.proofs.Counting as counting
+use Rattle.counted_block.proofs.Signs.{Signs, signs}
 
 -- one more, unless it is full
 full_by : (n : ℕ) (d : Dec (2 ^ 63 ≤ n + 1)) → 2 ^ 63 ≤ n + 1 → dite d (λ _. n) (λ _. n + 1) ≡ n
@@ -48,27 +52,18 @@ is_eq n m e = eqb→eq n m (subst lib.Dec.T (sym e) tt)
 pub not_eq : (n m : ℕ) → eqb n m ≡ false → ¬ (n ≡ m)
 not_eq n m e same = Rattle.std.proofs.Common.true≢false (sym (Rattle.std.proofs.Common.eq-eqb n m same) ∙ e)
 
-module _ {M : Type 1} {𝓤 : Ura M} (𝓛 : Logic 𝓤) (R Q : RattleType) {V : Type 0} (cv : Coded V) (holds : State (Place R.Denot Q.Denot) V → Type 0) (out : ℕ → ℕ) (P : Fml) (z : BlockId) where
+module _ {M : Type 1} {𝓤 : Ura M} (𝓛 : Logic 𝓤) (R Q : RattleType) {V : Type 0} (cv : Coded V) (holds : State (Place R.Denot Q.Denot) V → Type 0) (out : ℕ → ℕ) (P : Fml)
+    (z : BlockId) where
   open 𝓛 use {H, A}
 
   abbrev Pr : Type 2
   Pr = SProp 𝓤
 
-  abbrev ⟦◌⟧ : Fml → Pr
-  ⟦ X ⟧ = sem 𝓛 X
+  abbrev 𝓝 : Signs 𝓛
+  𝓝 = signs 𝓛
 
-  abbrev ◌⊢◌ : Pr → Pr → Type 1
-  X ⊢ Y = ent 𝓤 X Y
+  open 𝓝 use {⟦◌⟧, ◌⊢◌, ◌∗◌, ◌-∗◌}
 
-  abbrev ◌∗◌ : Pr → Pr → Pr
-  X ∗ Y = sep 𝓤 X Y
-
-  abbrev ◌-∗◌ : Pr → Pr → Pr
-  X -∗ Y = wand 𝓤 X Y
-
-  infix 26 ◌⊢◌
-  infixr 35 ◌∗◌
-  infixr 30 ◌-∗◌
   abbrev S : Type 0
   S = Place R.Denot Q.Denot
 
@@ -89,24 +84,30 @@ module _ {M : Type 1} {𝓤 : Ura M} (𝓛 : Logic 𝓤) (R Q : RattleType) {V :
   around s = fsep (word b (z.offset + 0) (word_of s)) (fsep (fsep (shelf R Q z 0 s.homes) (lent R Q cv.code holds out P z)) (views_in R Q cv.code holds out P z s))
 
   -- the block is over: the invariant has the views alone, and the rest goes
-  pub over : (seat : Option (ℕ × V)) (s : State S V) (m : ℕ) → (holds s → Known holds seat s) → ⟦ word b o m ⟧ ∗ A.dead (life z) ∗ A.dead (stay z) ∗ ⟦ around s ⟧ ⊢ ⟦ J ⟧ ∗ ⟦ remains R Q cv.code holds out P z seat ⟧
-  over seat s m known = let n : ℕ = word_of s in let e : ℕ = z.offset + 0 in qed 𝓛 (‵ (word b o m) ∷ ‵ (fdead (life z)) ∷ ‵ (fdead (stay z)) ∷ ‵ (around s) ∷ []) ∵ move ! (3 ∷ []) $ fsplit3 ! $ move ! (2 ∷ []) $ fsplit ! $ move ! (1 ∷ []) $ fpick ! (λ so. drop ! $
+  pub over : (seat : Option (ℕ × V)) (s : State S V) (m : ℕ) → (holds s → Known holds seat s) → ⟦ word b o m ⟧ ∗ A.dead (life z) ∗ A.dead (stay z) ∗ ⟦ around s ⟧ ⊢ ⟦ J ⟧
+      ∗ ⟦ remains R Q cv.code holds out P z seat ⟧
+  over seat s m known = let n : ℕ = word_of s in let e : ℕ = z.offset + 0 in qed 𝓛 (‵ (word b o m) ∷ ‵ (fdead (life z)) ∷ ‵ (fdead (stay z)) ∷ ‵ (around s) ∷ []) ∵
+      move ! (3 ∷ []) $ fsplit3 ! $ move ! (2 ∷ []) $ fsplit ! $ move ! (1 ∷ []) $ fpick ! (λ so. drop ! $
       -- [the roster; the word; the slots and what is lent; the holds; over, twice]
-      move ! (1 ∷ []) $ use1 𝓛 (given (lib.Dec.T (has_ty (ty_int w64) (vint w64 n)) × WT (vint w64 n)) (‵ (word b e n))) (𝓛.laws.at_wt full_share (ty_int w64) b e (vint w64 n)) $ learn ! (λ typed.
-      move ! (4 ∷ []) $ use1 𝓛 (‵ (fdead (life z)) ⊛ ‵ (fdead (life z))) (𝓛.lfts.dead_dup (life z)) $ split ! $ move ! (0 ∷ 6 ∷ []) $ fjoin ! $
-      nothing ! $ fpack ! (Fits holds s) (λ _. ftrue) so $ move ! (4 ∷ 0 ∷ []) $ fjoin ! $ nothing ! $ fpack ! (n < 18446744073709551616) (λ _. ftrue) typed.1.fits $ fjoin ! $ fpack ! (State S V) (ghostly R Q cv.code holds out P z) s $
-      move ! (1 ∷ 0 ∷ []) $ fjoin ! $ fpack ! Bool (stands R Q cv.code holds out P z) false $ frame ! $
+      move ! (1 ∷ []) $ use1 𝓛 (given (lib.Dec.T (has_ty (ty_int w64) (vint w64 n)) × WT (vint w64 n)) (‵ (word b e n))) (𝓛.laws.at_wt full_share (ty_int w64) b e (vint w64 n)) $
+      learn ! (λ typed. move ! (4 ∷ []) $ use1 𝓛 (‵ (fdead (life z)) ⊛ ‵ (fdead (life z))) (𝓛.lfts.dead_dup (life z)) $ split ! $ move ! (0 ∷ 6 ∷ []) $ fjoin ! $ nothing ! $
+      fpack ! (Fits holds s) (λ _. ftrue) so $ move ! (4 ∷ 0 ∷ []) $ fjoin ! $ nothing ! $ fpack ! (n < 18446744073709551616) (λ _. ftrue) typed.1.fits $ fjoin ! $
+      fpack ! (State S V) (ghostly R Q cv.code holds out P z) s $ move ! (1 ∷ 0 ∷ []) $ fjoin ! $ fpack ! Bool (stands R Q cv.code holds out P z) false $ frame ! $
       -- [over; the word; the slots and what is lent; the holds]
-      move ! (0 ∷ 2 ∷ []) $ fjoin ! $ move ! (1 ∷ 2 ∷ []) $ fjoin ! $ nothing ! $ fpack ! (Fits (Known holds seat) s) (λ _. ftrue) (known so.0, so.1, so.2) $ move ! (1 ∷ 2 ∷ 0 ∷ []) $ fjoin3 ! $
-      fpack ! (State S V × ℕ) (remaining R Q cv.code holds out P z seat) (s, m) $ done !))
+      move ! (0 ∷ 2 ∷ []) $ fjoin ! $ move ! (1 ∷ 2 ∷ []) $ fjoin ! $ nothing ! $ fpack ! (Fits (Known holds seat) s) (λ _. ftrue) (known so.0, so.1, so.2) $ move ! (1 ∷ 2 ∷ 0 ∷ []) $
+      fjoin3 ! $ fpack ! (State S V × ℕ) (remaining R Q cv.code holds out P z seat) (s, m) $ done !))
 
   module _ (f : ℕ → ℕ) (after : ℕ → Fml) where
-    pub goes_on : (y : Bool) (s : State S V) (h m : ℕ) → f h ≡ m → ⟦ word b o (f h) ⟧ ∗ ⟦ Counts y (word_of s) m ⟧ ∗ ⟦ around s ⟧ ∗ ⟦ after h ⟧ ⊢ Ends 𝓛 J b o f after [] h
-    goes_on y s h m is = let Z : Pr = ⟦ J ⟧ ∗ ⟦ after h ⟧ in qed 𝓛 (‵ (word b o (f h)) ∷ ‵ (Counts y (word_of s) m) ∷ ‵ (around s) ∷ ‵ (after h) ∷ []) ∵ suffices ! _ (upd_i 𝓤 Z) $ rewrite ! 0 (λ (k : ℕ). ‵ (word b o k)) is refl $
-        move ! (2 ∷ []) $ fsplit ! $ move ! (0 ∷ 2 ∷ []) $ fjoin ! $ move ! (0 ∷ 2 ∷ 1 ∷ []) $ fjoin3 ! $ fpack ! (Bool × (State S V × ℕ)) (standing R Q cv.code holds out P z) (y, (s, m)) $ fpack ! Bool (stands R Q cv.code holds out P z) true $ done !
+    pub goes_on : (y : Bool) (s : State S V) (h m : ℕ) → f h ≡ m → ⟦ word b o (f h) ⟧ ∗ ⟦ Counts y (word_of s) m ⟧ ∗ ⟦ around s ⟧ ∗ ⟦ after h ⟧ ⊢ Ends 𝓛 J b o f
+        after [] h
+    goes_on y s h m is = let Z : Pr = ⟦ J ⟧ ∗ ⟦ after h ⟧ in qed 𝓛 (‵ (word b o (f h)) ∷ ‵ (Counts y (word_of s) m) ∷ ‵ (around s) ∷ ‵ (after h) ∷ []) ∵
+        suffices ! _ (upd_i 𝓤 Z) $ rewrite ! 0 (λ (k : ℕ). ‵ (word b o k)) is refl $
+        move ! (2 ∷ []) $ fsplit ! $ move ! (0 ∷ 2 ∷ []) $ fjoin ! $ move ! (0 ∷ 2 ∷ 1 ∷ []) $ fjoin3 ! $ fpack ! (Bool × (State S V × ℕ)) (standing R Q cv.code holds out P z)
+        (y, (s, m)) $ fpack ! Bool (stands R Q cv.code holds out P z) true $ done !
 
     module _ (E : Pr) (here : (Z : Pr) → E ∗ A.dead (life z) ∗ A.dead (stay z) ⊢ Z)
-        (law : (y : Bool) (s : State S V) (h : ℕ) → h < 18446744073709551616 → ⟦ Counts y (word_of s) h ⟧ ∗ E ∗ ⟦ around s ⟧ ⊢ ⟦ word b o (f h) ⟧ -∗ Ended 𝓛 J b o f after h) where
+        (law : (y : Bool) (s : State S V) (h : ℕ) → h < 18446744073709551616 → ⟦ Counts y (word_of s) h ⟧ ∗ E ∗ ⟦ around s ⟧ ⊢ ⟦ word b o (f h) ⟧ -∗ Ended 𝓛 J b o f after
+        h) where
       abbrev G : Pr
       G = ex 𝓤 (Lies 𝓛 J b o f after)
 
@@ -131,19 +132,26 @@ module _ {M : Type 1} {𝓤 : Ura M} (𝓛 : Logic 𝓤) (R Q : RattleType) {V :
     abbrev pub with_hold : ℕ → Fml
     with_hold n = fsep token (hold_parts_if (not (eqb n 9223372036854775807)) z)
 
-    held_by : (s : State S V) (h : ℕ) (y : Bool) → eqb h 9223372036854775807 ≡ y → h < 9223372036854775808 → ⟦ Counts true (word_of s) h ⟧ ⊢ ⟦ Counts true (word_of s) (bump h) ⟧ ∗ ⟦ hold_parts_if (not y) z ⟧
-    held_by s h true e small = qed 𝓛 (‵ (Counts true (word_of s) h) ∷ []) ∵ rewrite ! 0 (λ (k : ℕ). ‵ (Counts true (word_of s) k)) (sym (bump_full h (is_eq h 9223372036854775807 e))) refl $ frame ! $ nothing ! $ done !
+    held_by : (s : State S V) (h : ℕ) (y : Bool) → eqb h 9223372036854775807 ≡ y → h < 9223372036854775808 → ⟦ Counts true (word_of s) h ⟧ ⊢ ⟦ Counts true (word_of s) (bump h) ⟧
+        ∗ ⟦ hold_parts_if (not y) z ⟧
+    held_by s h true e small = qed 𝓛 (‵ (Counts true (word_of s) h) ∷ []) ∵ rewrite ! 0 (λ (k : ℕ). ‵ (Counts true (word_of s) k)) (sym (bump_full h (is_eq h 9223372036854775807 e)))
+        refl $ frame ! $ nothing ! $ done !
     held_by s h false e small = let ne = not_eq h 9223372036854775807 e in let room : h + 1 < 9223372036854775808 = below h small ne in qed 𝓛 (‵ (Counts true (word_of s) h) ∷ []) ∵
-        use1 𝓛 (‵ (Counts true (word_of s) (h + 1)) ⊛ ‵ (hold_parts z)) (counting.hold_more 𝓛 R Q cv holds out P z (word_of s) h room) $ split ! $ rewrite ! 0 (λ (k : ℕ). ‵ (Counts true (word_of s) k)) (sym (bump_room h room)) refl $ done !
+        use1 𝓛 (‵ (Counts true (word_of s) (h + 1)) ⊛ ‵ (hold_parts z)) (counting.hold_more 𝓛 R Q cv holds out P z (word_of s) h room) $ split ! $
+        rewrite ! 0 (λ (k : ℕ). ‵ (Counts true (word_of s) k)) (sym (bump_room h room)) refl $ done !
       where
         below : (n : ℕ) → n < 9223372036854775808 → ¬ (n ≡ 9223372036854775807) → n + 1 < 9223372036854775808
         below n lt ne = omega (arith, ne)
 
-    hold_law : (y : Bool) (s : State S V) (h : ℕ) → h < 18446744073709551616 → ⟦ Counts y (word_of s) h ⟧ ∗ ⟦ token ⟧ ∗ ⟦ around s ⟧ ⊢ ⟦ word b o (bump h) ⟧ -∗ Ended 𝓛 J b o bump with_hold h
-    hold_law false s h small = qed 𝓛 (‵ (Counts false (word_of s) h) ∷ ‵ token ∷ ‵ (around s) ∷ []) ∵ fsplit3 ! $ move ! (1 ∷ []) $ fsplit ! $ keep ! (4 ∷ 1 ∷ []) $ by ! (counting.token_dead 𝓛 z.tally q _)
-    hold_law true s h small = qed 𝓛 (‵ (Counts true (word_of s) h) ∷ ‵ token ∷ ‵ (around s) ∷ []) ∵ fsplit ! $ fpick ! (λ few. drop ! $ nothing ! $ fpack ! (h < 9223372036854775808) (λ _. ftrue) few $ fjoin ! $
+    hold_law : (y : Bool) (s : State S V) (h : ℕ) → h < 18446744073709551616 → ⟦ Counts y (word_of s) h ⟧ ∗ ⟦ token ⟧ ∗ ⟦ around s ⟧ ⊢ ⟦ word b o (bump h) ⟧ -∗ Ended 𝓛
+        J b o bump with_hold h
+    hold_law false s h small = qed 𝓛 (‵ (Counts false (word_of s) h) ∷ ‵ token ∷ ‵ (around s) ∷ []) ∵ fsplit3 ! $ move ! (1 ∷ []) $ fsplit ! $ keep ! (4 ∷ 1 ∷ []) $
+        by ! (counting.token_dead 𝓛 z.tally q _)
+    hold_law true s h small = qed 𝓛 (‵ (Counts true (word_of s) h) ∷ ‵ token ∷ ‵ (around s) ∷ []) ∵ fsplit ! $ fpick ! (λ few. drop ! $ nothing ! $
+        fpack ! (h < 9223372036854775808) (λ _. ftrue) few $ fjoin ! $
         use1 𝓛 (‵ (Counts true (word_of s) (bump h)) ⊛ ‵ (hold_parts_if (not (eqb h 9223372036854775807)) z)) (held_by s h (eqb h 9223372036854775807) refl few) $ split ! $
-        assume ! (‵ (word b o (bump h))) $ show ! (λ (ls : List ℕ). Ends 𝓛 J b o bump with_hold ls h) [] $ move ! (3 ∷ 2 ∷ []) $ fjoin ! $ move ! (1 ∷ 2 ∷ 3 ∷ 0 ∷ []) $ by ! (goes_on bump with_hold true s h (bump h) refl))
+        assume ! (‵ (word b o (bump h))) $ show ! (λ (ls : List ℕ). Ends 𝓛 J b o bump with_hold ls h) [] $ move ! (3 ∷ 2 ∷ []) $ fjoin ! $ move ! (1 ∷ 2 ∷ 3 ∷ 0 ∷ []) $
+        by ! (goes_on bump with_hold true s h (bump h) refl))
 
     token_here : (Z : Pr) → ⟦ token ⟧ ∗ A.dead (life z) ∗ A.dead (stay z) ⊢ Z
     token_here Z = qed 𝓛 (‵ token ∷ ‵ (fdead (life z)) ∷ ‵ (fdead (stay z)) ∷ []) ∵ keep ! (0 ∷ 2 ∷ []) $ by ! (counting.token_dead 𝓛 z.tally q Z)
@@ -159,17 +167,21 @@ module _ {M : Type 1} {𝓤 : Ura M} (𝓛 : Logic 𝓤) (R Q : RattleType) {V :
   released n = remains_if R Q cv.code holds out P z (eqb n 9223372036854775809) none
 
   lasts_by : (s : State S V) (h : ℕ) (y : Bool) → eqb h 9223372036854775809 ≡ y → 9223372036854775808 < h → h < 18446744073709551616
-      → ⟦ rest 64 z.age (h - 9223372036854775808) ⟧ ∗ ⟦ part 64 z.age ⟧ ∗ A.dead (stay z) ∗ ⟦ grips_left z.grips (h - 9223372036854775808 - 1) ⟧ ∗ ⟦ around s ⟧ ⊢ ⟦ word b o (fewer h) ⟧ -∗ Ended 𝓛 J b o fewer released h
+      → ⟦ rest 64 z.age (h - 9223372036854775808) ⟧ ∗ ⟦ part 64 z.age ⟧ ∗ A.dead (stay z) ∗ ⟦ grips_left z.grips (h - 9223372036854775808 - 1) ⟧ ∗ ⟦ around s ⟧
+      ⊢ ⟦ word b o (fewer h) ⟧ -∗ Ended 𝓛 J b o fewer released h
   lasts_by s h true e big small = let at : h ≡ 9223372036854775809 = is_eq h 9223372036854775809 e in let one : h - 9223372036854775808 ≡ 1 = omega arith in
-      qed 𝓛 (‵ (rest 64 z.age (h - 9223372036854775808)) ∷ ‵ (part 64 z.age) ∷ ‵ (fdead (stay z)) ∷ ‵ (grips_left z.grips (h - 9223372036854775808 - 1)) ∷ ‵ (around s) ∷ []) ∵ rewrite ! 0 (λ (k : ℕ). ‵ (rest 64 z.age k)) one refl $
-      use2 𝓛 (‵ (flft (life z) full_share)) (counts.whole 64 𝓛 z.age) $ assume ! (‵ (word b o (fewer h))) $ show ! (λ (ls : List ℕ). Ends 𝓛 J b o fewer released ls h) (z.age ∷ []) $
-      let D : Pr = A.dead (life z) in let N : Pr = Ends 𝓛 J b o fewer released [] h in suffices ! _ (upd_i 𝓤 (A.lft (life z) full_share ∗ (D -∗ N))) $ move ! (1 ∷ []) $ frame ! $ assume ! (‵ (fdead (life z))) $
+      qed 𝓛 (‵ (rest 64 z.age (h - 9223372036854775808)) ∷ ‵ (part 64 z.age) ∷ ‵ (fdead (stay z)) ∷ ‵ (grips_left z.grips (h - 9223372036854775808 - 1)) ∷ ‵ (around s) ∷ []) ∵
+      rewrite ! 0 (λ (k : ℕ). ‵ (rest 64 z.age k)) one refl $ use2 𝓛 (‵ (flft (life z) full_share)) (counts.whole 64 𝓛 z.age) $ assume ! (‵ (word b o (fewer h))) $
+      show ! (λ (ls : List ℕ). Ends 𝓛 J b o fewer released ls h) (z.age ∷ []) $ let D : Pr = A.dead (life z) in let N : Pr = Ends 𝓛 J b o fewer released [] h in
+      suffices ! _ (upd_i 𝓤 (A.lft (life z) full_share ∗ (D -∗ N))) $ move ! (1 ∷ []) $ frame ! $ assume ! (‵ (fdead (life z))) $
       -- [over; the holds; over; the grips; what is around]
-      let Z : Pr = ⟦ J ⟧ ∗ ⟦ released h ⟧ in suffices ! _ (upd_i 𝓤 Z) $ keep ! (1 ∷ 0 ∷ 2 ∷ 4 ∷ []) $ by ! (subst (λ (y : Bool). ⟦ word b o (fewer h) ⟧ ∗ D ∗ A.dead (stay z) ∗ ⟦ around s ⟧ ⊢ ⟦ J ⟧ ∗ ⟦ remains_if R Q cv.code holds out P z y none ⟧) (sym e) (over none s (fewer h) (λ k. k)))
+      let Z : Pr = ⟦ J ⟧ ∗ ⟦ released h ⟧ in suffices ! _ (upd_i 𝓤 Z) $ keep ! (1 ∷ 0 ∷ 2 ∷ 4 ∷ []) $ by ! (subst (λ (y : Bool). ⟦ word b o (fewer h) ⟧ ∗ D
+      ∗ A.dead (stay z) ∗ ⟦ around s ⟧ ⊢ ⟦ J ⟧ ∗ ⟦ remains_if R Q cv.code holds out P z y none ⟧) (sym e) (over none s (fewer h) (λ k. k)))
   lasts_by s h false e big small = let ne = not_eq h 9223372036854775809 e in let many : 9223372036854775809 < h = above h big ne in let is : fewer h ≡ h - 1 = omega arith in
-      qed 𝓛 (‵ (rest 64 z.age (h - 9223372036854775808)) ∷ ‵ (part 64 z.age) ∷ ‵ (fdead (stay z)) ∷ ‵ (grips_left z.grips (h - 9223372036854775808 - 1)) ∷ ‵ (around s) ∷ []) ∵ types.Kit.group ! 4 $
-      use1 𝓛 (‵ (Counts false (word_of s) (h - 1))) (counting.hold_stays 𝓛 R Q cv holds out P z (word_of s) h many small) $ assume ! (‵ (word b o (fewer h))) $ show ! (λ (ls : List ℕ). Ends 𝓛 J b o fewer released ls h) [] $
-      nothing ! $ rewrite ! 0 (λ (y : Bool). ‵ (remains_if R Q cv.code holds out P z y none)) (sym e) refl $ move ! (1 ∷ 2 ∷ 3 ∷ 0 ∷ []) $ by ! (goes_on fewer released false s h (h - 1) is)
+      qed 𝓛 (‵ (rest 64 z.age (h - 9223372036854775808)) ∷ ‵ (part 64 z.age) ∷ ‵ (fdead (stay z)) ∷ ‵ (grips_left z.grips (h - 9223372036854775808 - 1)) ∷ ‵ (around s) ∷ []) ∵
+      types.Kit.group ! 4 $ use1 𝓛 (‵ (Counts false (word_of s) (h - 1))) (counting.hold_stays 𝓛 R Q cv holds out P z (word_of s) h many small) $ assume ! (‵ (word b o (fewer h))) $
+      show ! (λ (ls : List ℕ). Ends 𝓛 J b o fewer released ls h) [] $ nothing ! $ rewrite ! 0 (λ (y : Bool). ‵ (remains_if R Q cv.code holds out P z y none)) (sym e) refl $
+      move ! (1 ∷ 2 ∷ 3 ∷ 0 ∷ []) $ by ! (goes_on fewer released false s h (h - 1) is)
     where
       above : (n : ℕ) → 9223372036854775808 < n → ¬ (n ≡ 9223372036854775809) → 9223372036854775809 < n
       above n lt ne = omega (arith, ne)
@@ -178,14 +190,17 @@ module _ {M : Type 1} {𝓤 : Ura M} (𝓛 : Logic 𝓤) (R Q : RattleType) {V :
   small_no h true e small = let at = is_eq h 9223372036854775809 e in absurd (omega arith)
   small_no h false e small = e
 
-  release_law : (y : Bool) (s : State S V) (h : ℕ) → h < 18446744073709551616 → ⟦ Counts y (word_of s) h ⟧ ∗ ⟦ hold_parts z ⟧ ∗ ⟦ around s ⟧ ⊢ ⟦ word b o (fewer h) ⟧ -∗ Ended 𝓛 J b o fewer released h
+  release_law : (y : Bool) (s : State S V) (h : ℕ) → h < 18446744073709551616 → ⟦ Counts y (word_of s) h ⟧ ∗ ⟦ hold_parts z ⟧ ∗ ⟦ around s ⟧ ⊢ ⟦ word b o (fewer h) ⟧ -∗
+      Ended 𝓛 J b o fewer released h
   release_law true s h small = qed 𝓛 (‵ (Counts true (word_of s) h) ∷ ‵ (hold_parts z) ∷ ‵ (around s) ∷ []) ∵
-      use2 𝓛 (given ((0 < h) × (h < 9223372036854775808)) (‵ (Counts true (word_of s) (h - 1)))) (counting.hold_less 𝓛 R Q cv holds out P z true (word_of s) h) $ learn ! (λ some_out. let p = some_out.0 in let is : fewer h ≡ h - 1 = omega arith in
-      assume ! (‵ (word b o (fewer h))) $ show ! (λ (ls : List ℕ). Ends 𝓛 J b o fewer released ls h) [] $
-      nothing ! $ rewrite ! 0 (λ (y : Bool). ‵ (remains_if R Q cv.code holds out P z y none)) (sym (small_no h (eqb h 9223372036854775809) refl some_out.1)) refl $ move ! (1 ∷ 2 ∷ 3 ∷ 0 ∷ []) $ by ! (goes_on fewer released true s h (h - 1) is))
+      use2 𝓛 (given ((0 < h) × (h < 9223372036854775808)) (‵ (Counts true (word_of s) (h - 1)))) (counting.hold_less 𝓛 R Q cv holds out P z true (word_of s) h) $
+      learn ! (λ some_out. let p = some_out.0 in let is : fewer h ≡ h - 1 = omega arith in assume ! (‵ (word b o (fewer h))) $ show ! (λ (ls : List ℕ). Ends 𝓛 J b o fewer released ls h)
+      [] $ nothing ! $ rewrite ! 0 (λ (y : Bool). ‵ (remains_if R Q cv.code holds out P z y none)) (sym (small_no h (eqb h 9223372036854775809) refl some_out.1)) refl $
+      move ! (1 ∷ 2 ∷ 3 ∷ 0 ∷ []) $ by ! (goes_on fewer released true s h (h - 1) is))
   release_law false s h small = qed 𝓛 (‵ (Counts false (word_of s) h) ∷ ‵ (hold_parts z) ∷ ‵ (around s) ∷ []) ∵
-      use2 𝓛 (given ((9223372036854775808 < h) × (h < 18446744073709551616)) (‵ (rest 64 z.age (h - 9223372036854775808)) ⊛ ‵ (part 64 z.age) ⊛ ‵ (fdead (stay z)) ⊛ ‵ (grips_left z.grips (h - 9223372036854775808 - 1)))) (counting.hold_less 𝓛 R Q cv holds out P z false (word_of s) h) $ learn ! (λ at.
-      split3 ! $ move ! (2 ∷ []) $ split ! $ move ! (2 ∷ 3 ∷ 0 ∷ 1 ∷ 4 ∷ []) $ by ! (lasts_by s h (eqb h 9223372036854775809) refl at.0 at.1))
+      use2 𝓛 (given ((9223372036854775808 < h) × (h < 18446744073709551616)) (‵ (rest 64 z.age (h - 9223372036854775808)) ⊛ ‵ (part 64 z.age) ⊛ ‵ (fdead (stay z)) ⊛
+      ‵ (grips_left z.grips (h - 9223372036854775808 - 1)))) (counting.hold_less 𝓛 R Q cv holds out P z false (word_of s) h) $ learn ! (λ at. split3 ! $ move ! (2 ∷ []) $ split ! $
+      move ! (2 ∷ 3 ∷ 0 ∷ 1 ∷ 4 ∷ []) $ by ! (lasts_by s h (eqb h 9223372036854775809) refl at.0 at.1))
 
   hold_here : (Z : Pr) → ⟦ hold_parts z ⟧ ∗ A.dead (life z) ∗ A.dead (stay z) ⊢ Z
   hold_here Z = qed 𝓛 (‵ (hold_parts z) ∷ ‵ (fdead (life z)) ∷ ‵ (fdead (stay z)) ∷ []) ∵ fsplit ! $ keep ! (0 ∷ 2 ∷ []) $ by ! (counting.part_dead 𝓛 z.age 64 Z)

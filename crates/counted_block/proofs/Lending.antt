@@ -3,12 +3,13 @@ use Rattle.std.proofs.Common.{ℕ, [], ◌∷◌}
 use seplogic.Ra.Ura.{Ura}
 use base.FractionLaws.{Counts}
 use base.Stored.{Gv}
-use base.Logic.{SProp, ent, sep, wand, upd_i, id⊢, apply∗}
+use base.Logic.{ent, sep, wand, upd_i, id⊢, apply∗}
 use base.Fml.{Lft, Share, Fml, ftrue, fsep, fseps, fwand, fupd, fdead, fbor, flft}
 use contract.BorrowLft.{meet_⊑_left}
 use ghost.Rules.{span, thinned}
 use types.Logic.{Logic, sem, lfts}
-use types.Kit.{‵, raw, ◌⊛◌, some, later, ◌$◌, ◌∵◌, !, qed, by, move, keep, drop, use1, use2, split, split3, frame, fsplit, fsplit3, fjoin, fjoin3, fpick, fpack, pick, assume, suffices, await, updating, now, done}
+use types.Kit.{‵, raw, ◌⊛◌, some, later, ◌$◌, ◌∵◌, !, qed, by, move, keep, drop, use1, use2, split, split3, frame, fsplit, fsplit3, fjoin, fjoin3, fpick, fpack, pick, assume, now}
+use types.Kit.{suffices, await, updating, done}
 use types.Tokens.{bor_open, obor_alter, obor_close, bor_fracture, one_token}
 use types.RcWeak.{part, part_in}
 use denote.RattleType.{RattleType}
@@ -21,6 +22,7 @@ use Rattle.atomic_table.specs.Table.{State}
 use Rattle.counted_block.specs.declared.place.Place.{Place}
 use Rattle.counted_block.specs.Blocks.{BlockId, life, stay, grip, kept, share_owns, share_shares, hold_owns, hold_shares}
 use Rattle.counted_block.proofs.Keeping as keeping
+use Rattle.counted_block.proofs.Signs.{Signs, signs}
 
 module _ {M : Type 1} {𝓤 : Ura M} (𝓛 : Logic 𝓤) (F : Fml) (G : Lft → Fml) (l : Lft)
     (by_token : (κ : Lft) (q : Share) → ent 𝓤 (sep 𝓤 (𝓛.A.bor κ F) (𝓛.A.lft κ q)) (𝓛.H.⇛ (sep 𝓤 (sem 𝓛 (G κ)) (𝓛.A.lft κ q)))) where
@@ -31,8 +33,8 @@ module _ {M : Type 1} {𝓤 : Ura M} (𝓛 : Logic 𝓤) (F : Fml) (G : Lft → 
       use1 𝓛 (some (λ (q : Share). ‵ (flft (span ts) q) ⊛ raw (wand 𝓤 (A.lft (span ts) q) (lfts 𝓛 ts)))) (one_token 𝓛 ts) $ pick ! (λ q. split ! $
       use1 𝓛 (‵ (flft κ (thinned κ q)) ⊛ raw (wand 𝓤 (A.lft κ (thinned κ q)) (A.lft (span ts) q))) (𝓛.lfts.lft-incl (span ts) κ q sp) $ split ! $ move ! (3 ∷ 0 ∷ []) $
       use2 𝓛 (later (‵ (G κ) ⊛ ‵ (flft κ (thinned κ q)))) (by_token κ (thinned κ q)) $ await ! tt $ split ! $ move ! (1 ∷ 2 ∷ []) $
-      use2 𝓛 (‵ (flft (span ts) q)) (apply∗ 𝓤 (A.lft κ (thinned κ q)) (A.lft (span ts) q)) $ move ! (0 ∷ 2 ∷ []) $ use2 𝓛 (raw (lfts 𝓛 ts)) (apply∗ 𝓤 (A.lft (span ts) q) (lfts 𝓛 ts)) $
-      now ! $ move ! (1 ∷ 0 ∷ []) $ done !)
+      use2 𝓛 (‵ (flft (span ts) q)) (apply∗ 𝓤 (A.lft κ (thinned κ q)) (A.lft (span ts) q)) $ move ! (0 ∷ 2 ∷ []) $ use2 𝓛 (raw (lfts 𝓛 ts)) (apply∗ 𝓤 (A.lft (span ts) q)
+      (lfts 𝓛 ts)) $ now ! $ move ! (1 ∷ 0 ∷ []) $ done !)
 
 module _ (R Q : RattleType) {V : Type 0} (c : V → Gv) (holds : State (Place R.Denot Q.Denot) V → Type 0) (out : ℕ → ℕ) (P : Fml) (z : BlockId) (t : Lft → Fml) (L : ShrLaws t) where
   abbrev K : Fml
@@ -61,63 +63,67 @@ module _ (R Q : RattleType) {V : Type 0} (c : V → Gv) (holds : State (Place R.
   module _ {M : Type 1} {𝓤 : Ura M} (𝓛 : Logic 𝓤) where
     open 𝓛 use {H, A}
 
-    abbrev ⟦◌⟧ : Fml → SProp 𝓤
-    ⟦ X ⟧ = sem 𝓛 X
+    abbrev 𝓝 : Signs 𝓛
+    𝓝 = signs 𝓛
 
-    abbrev ◌⊢◌ : SProp 𝓤 → SProp 𝓤 → Type 1
-    X ⊢ Y = ent 𝓤 X Y
+    open 𝓝 use {⟦◌⟧, ◌⊢◌, ◌∗◌}
 
-    abbrev ◌∗◌ : SProp 𝓤 → SProp 𝓤 → SProp 𝓤
-    X ∗ Y = sep 𝓤 X Y
-
-    infix 26 ◌⊢◌
-    infixr 35 ◌∗◌
-    share_back : (κ : Lft) (e d : Share) → Counts 64 e 1 → Counts 62 d 1 → ⟦ K ⟧ ∗ ⟦ t (life z) ⟧ ⊢ ⟦ fwand (fsep (fdead κ) (fseps (flft (life z) e ∷ flft (stay z) d ∷ []))) (fupd owns) ⟧
+    share_back : (κ : Lft) (e d : Share) → Counts 64 e 1 → Counts 62 d 1 → ⟦ K ⟧ ∗ ⟦ t (life z) ⟧ ⊢ ⟦ fwand (fsep (fdead κ) (fseps (flft (life z) e ∷ flft (stay z) d ∷ [])))
+        (fupd owns) ⟧
     unfolding fseps
-    share_back κ e d ce cd = qed 𝓛 (‵ K ∷ ‵ (t (life z)) ∷ []) ∵ assume ! (‵ (fsep (fdead κ) (fsep (flft (life z) e) (fsep (flft (stay z) d) ftrue)))) $ suffices ! ⟦ owns ⟧ (upd_i 𝓤 ⟦ owns ⟧) $
-        fsplit ! $ drop ! $ fsplit3 ! $ use1 𝓛 (‵ (part 64 z.age)) (part_in 64 𝓛 z.age e ce) $ move ! (1 ∷ []) $ use1 𝓛 (‵ (part 62 z.tally)) (part_in 62 𝓛 z.tally d cd) $ move ! (1 ∷ 0 ∷ []) $ fjoin ! $ keep ! (0 ∷ 2 ∷ 3 ∷ []) $ fjoin3 ! $ done !
+    share_back κ e d ce cd = qed 𝓛 (‵ K ∷ ‵ (t (life z)) ∷ []) ∵ assume ! (‵ (fsep (fdead κ) (fsep (flft (life z) e) (fsep (flft (stay z) d) ftrue)))) $
+        suffices ! ⟦ owns ⟧ (upd_i 𝓤 ⟦ owns ⟧) $
+        fsplit ! $ drop ! $ fsplit3 ! $ use1 𝓛 (‵ (part 64 z.age)) (part_in 64 𝓛 z.age e ce) $ move ! (1 ∷ []) $ use1 𝓛 (‵ (part 62 z.tally)) (part_in 62 𝓛 z.tally d cd) $
+        move ! (1 ∷ 0 ∷ []) $ fjoin ! $ keep ! (0 ∷ 2 ∷ 3 ∷ []) $ fjoin3 ! $ done !
 
     share_by_token : (κ : Lft) (q : Share) → A.bor κ owns ∗ A.lft κ q ⊢ H.⇛ (⟦ shows κ ⟧ ∗ A.lft κ q)
     unfolding fseps
-    share_by_token κ q = qed 𝓛 (‵ (fbor κ owns) ∷ ‵ (flft κ q) ∷ []) ∵ updating ! $ bor_open ! tt $ move ! (1 ∷ []) $ fsplit3 ! $ fsplit ! $ fpick ! (λ e. fpick ! (λ ce. move ! (1 ∷ []) $ fpick ! (λ d. fpick ! (λ cd. move ! (2 ∷ []) $
+    share_by_token κ q = qed 𝓛 (‵ (fbor κ owns) ∷ ‵ (flft κ q) ∷ []) ∵ updating ! $ bor_open ! tt $ move ! (1 ∷ []) $ fsplit3 ! $ fsplit ! $
+        fpick ! (λ e. fpick ! (λ ce. move ! (1 ∷ []) $ fpick ! (λ d. fpick ! (λ cd. move ! (2 ∷ []) $
         -- [what is kept; the tally's token; the age's token; the value; the open borrow]
-        use1 𝓛 (‵ K ⊛ ‵ K) (keeping.kept_twice R Q c holds out P z 𝓛) $ split ! $ move ! (4 ∷ []) $ use1 𝓛 (‵ (t (life z)) ⊛ ‵ (t (life z))) (contraction 𝓛 t L (life z)) $ split ! $ move ! (2 ∷ 0 ∷ []) $
-        use2 𝓛 (‵ (fwand (fsep (fdead κ) (fseps (flft (life z) e ∷ flft (stay z) d ∷ []))) (fupd owns))) (share_back κ e d ce cd) $
+        use1 𝓛 (‵ K ⊛ ‵ K) (keeping.kept_twice R Q c holds out P z 𝓛) $ split ! $ move ! (4 ∷ []) $ use1 𝓛 (‵ (t (life z)) ⊛ ‵ (t (life z))) (contraction 𝓛 t L (life z)) $
+        split ! $ move ! (2 ∷ 0 ∷ []) $ use2 𝓛 (‵ (fwand (fsep (fdead κ) (fseps (flft (life z) e ∷ flft (stay z) d ∷ []))) (fupd owns))) (share_back κ e d ce cd) $
         -- [the way back; the value; what is kept; the tally's token; the age's token; the open borrow]
         nothing ! $ move ! (4 ∷ 0 ∷ []) $ fjoin ! $ move ! (4 ∷ 0 ∷ []) $ fjoin ! $ move ! (4 ∷ 0 ∷ 1 ∷ []) $ obor_alter ! tt (flft (life z) e ∷ flft (stay z) d ∷ []) $
-        use1 𝓛 (‵ (fbor κ (flft (life z) e)) ⊛ ‵ (fbor κ (flft (stay z) d)) ⊛ ‵ ftrue) (id⊢ 𝓤 _) $ split3 ! $ bor_fracture ! tt (λ r. flft (life z) r) e $ move ! (1 ∷ []) $ bor_fracture ! tt (λ r. flft (stay z) r) d $
+        use1 𝓛 (‵ (fbor κ (flft (life z) e)) ⊛ ‵ (fbor κ (flft (stay z) d)) ⊛ ‵ ftrue) (id⊢ 𝓤 _) $ split3 ! $ bor_fracture ! tt (λ r. flft (life z) r) e $ move ! (1 ∷ []) $
+        bor_fracture ! tt (λ r. flft (stay z) r) d $
         -- [the tally; the age; nothing; the token; the value; what is kept]
         move ! (1 ∷ 0 ∷ []) $ fjoin ! $ move ! (0 ∷ 4 ∷ 3 ∷ []) $ fjoin3 ! $ now ! $ keep ! (0 ∷ 2 ∷ []) $ done !))))
 
     pub lends_share : (l : Lft) → Lends 𝓛 owns shows l
     lends_share l = lends_by 𝓛 owns shows l share_by_token
 
-    hold_back : (κ : Lft) (e : Share) → Counts 64 e 1 → ⟦ K ⟧ ∗ ⟦ t (life z) ⟧ ∗ ⟦ grip z.grips ⟧ ⊢ ⟦ fwand (fsep (fdead κ) (fseps (flft (life z) e ∷ []))) (fupd holder) ⟧
+    hold_back : (κ : Lft) (e : Share) → Counts 64 e 1 → ⟦ K ⟧ ∗ ⟦ t (life z) ⟧ ∗ ⟦ grip z.grips ⟧ ⊢ ⟦ fwand (fsep (fdead κ) (fseps (flft (life z) e ∷ []))) (fupd holder)
+        ⟧
     unfolding fseps
-    hold_back κ e ce = qed 𝓛 (‵ K ∷ ‵ (t (life z)) ∷ ‵ (grip z.grips) ∷ []) ∵ assume ! (‵ (fsep (fdead κ) (fsep (flft (life z) e) ftrue))) $ suffices ! ⟦ holder ⟧ (upd_i 𝓤 ⟦ holder ⟧) $
+    hold_back κ e ce = qed 𝓛 (‵ K ∷ ‵ (t (life z)) ∷ ‵ (grip z.grips) ∷ []) ∵ assume ! (‵ (fsep (fdead κ) (fsep (flft (life z) e) ftrue))) $
+        suffices ! ⟦ holder ⟧ (upd_i 𝓤 ⟦ holder ⟧) $
         fsplit3 ! $ move ! (1 ∷ []) $ use1 𝓛 (‵ (part 64 z.age)) (part_in 64 𝓛 z.age e ce) $ move ! (0 ∷ 5 ∷ []) $ fjoin ! $ keep ! (0 ∷ 3 ∷ 4 ∷ []) $ fjoin3 ! $ done !
 
     hold_by_token : (κ : Lft) (q : Share) → A.bor κ holder ∗ A.lft κ q ⊢ H.⇛ (⟦ seen_held κ ⟧ ∗ A.lft κ q)
     unfolding fseps
-    hold_by_token κ q = qed 𝓛 (‵ (fbor κ holder) ∷ ‵ (flft κ q) ∷ []) ∵ updating ! $ bor_open ! tt $ move ! (1 ∷ []) $ fsplit3 ! $ fsplit ! $ fpick ! (λ e. fpick ! (λ ce. move ! (3 ∷ []) $
+    hold_by_token κ q = qed 𝓛 (‵ (fbor κ holder) ∷ ‵ (flft κ q) ∷ []) ∵ updating ! $ bor_open ! tt $ move ! (1 ∷ []) $ fsplit3 ! $ fsplit ! $
+        fpick ! (λ e. fpick ! (λ ce. move ! (3 ∷ []) $
         -- [the value; the token; the grip; what is kept; the open borrow]
         use1 𝓛 (‵ (t (life z)) ⊛ ‵ (t (life z))) (contraction 𝓛 t L (life z)) $ split ! $ move ! (4 ∷ 0 ∷ 3 ∷ []) $
         types.Kit.use3 𝓛 (‵ (fwand (fsep (fdead κ) (fseps (flft (life z) e ∷ []))) (fupd holder))) (hold_back κ e ce) $
         -- [the way back; the value; the token; the open borrow]
-        nothing ! $ move ! (3 ∷ 0 ∷ []) $ fjoin ! $ move ! (3 ∷ 0 ∷ 1 ∷ []) $ obor_alter ! tt (flft (life z) e ∷ []) $
-        use1 𝓛 (‵ (fbor κ (flft (life z) e)) ⊛ ‵ ftrue) (id⊢ 𝓤 _) $ split ! $ bor_fracture ! tt (λ r. flft (life z) r) e $ move ! (0 ∷ 3 ∷ []) $ fjoin ! $ now ! $ keep ! (0 ∷ 2 ∷ []) $ done !))
+        nothing ! $ move ! (3 ∷ 0 ∷ []) $ fjoin ! $ move ! (3 ∷ 0 ∷ 1 ∷ []) $ obor_alter ! tt (flft (life z) e ∷ []) $ use1 𝓛 (‵ (fbor κ (flft (life z) e)) ⊛ ‵ ftrue)
+        (id⊢ 𝓤 _) $ split ! $ bor_fracture ! tt (λ r. flft (life z) r) e $ move ! (0 ∷ 3 ∷ []) $ fjoin ! $ now ! $ keep ! (0 ∷ 2 ∷ []) $ done !))
 
     pub lends_hold : (l : Lft) → Lends 𝓛 holder seen_held l
     lends_hold l = lends_by 𝓛 holder seen_held l hold_by_token
 
     kept_by_token : (κ : Lft) (q : Share) → A.bor κ K ∗ A.lft κ q ⊢ H.⇛ (⟦ K ⟧ ∗ A.lft κ q)
-    kept_by_token κ q = qed 𝓛 (‵ (fbor κ K) ∷ ‵ (flft κ q) ∷ []) ∵ updating ! $ bor_open ! tt $ move ! (1 ∷ []) $ use1 𝓛 (‵ K ⊛ ‵ K) (keeping.kept_twice R Q c holds out P z 𝓛) $ split ! $ move ! (2 ∷ 0 ∷ []) $ obor_close ! tt $ now ! $ keep ! (2 ∷ 1 ∷ []) $ done !
+    kept_by_token κ q = qed 𝓛 (‵ (fbor κ K) ∷ ‵ (flft κ q) ∷ []) ∵ updating ! $ bor_open ! tt $ move ! (1 ∷ []) $ use1 𝓛 (‵ K ⊛ ‵ K) (keeping.kept_twice R Q c holds out P z
+        𝓛) $ split ! $ move ! (2 ∷ 0 ∷ []) $ obor_close ! tt $ now ! $ keep ! (2 ∷ 1 ∷ []) $ done !
 
     pub lends_kept : (l : Lft) → Lends 𝓛 K (λ _. K) l
     lends_kept l = lends_by 𝓛 K (λ _. K) l kept_by_token
 
     pub share_sees : (κ : Lft) → ⟦ shows κ ⟧ ⊢ ⟦ t κ ⟧
-    share_sees κ = qed 𝓛 (‵ (shows κ) ∷ []) ∵ fsplit ! $ fsplit ! $ move ! (2 ∷ []) $ fsplit ! $ keep ! (2 ∷ 1 ∷ []) $ by ! (moves_from 𝓛 t L κ (life z) (life z) (meet_⊑_left (life z) κ))
+    share_sees κ = qed 𝓛 (‵ (shows κ) ∷ []) ∵ fsplit ! $ fsplit ! $ move ! (2 ∷ []) $ fsplit ! $ keep ! (2 ∷ 1 ∷ []) $
+        by ! (moves_from 𝓛 t L κ (life z) (life z) (meet_⊑_left (life z) κ))
 
     pub hold_sees : (κ : Lft) → ⟦ seen_held κ ⟧ ⊢ ⟦ t κ ⟧
     hold_sees κ = qed 𝓛 (‵ (seen_held κ) ∷ []) ∵ fsplit ! $ by ! (moves_from 𝓛 t L κ (life z) (life z) (meet_⊑_left (life z) κ))

@@ -14,5 +14,7 @@ pub mod Gathering
 pub mod Boxing
 pub mod Calling
 pub mod Tokens
+pub mod Signs
 pub mod Names
 pub mod Fields
+pub mod Fetching

@@ -9,10 +9,11 @@ use mir.Val.{vint, has_ty, WT}
 use base.Fraction.{full_share}
 use base.Share.{three_quarters}
 use base.Stored.{Coded}
-use base.Logic.{SProp, ent, sep, ex, all, guard, upd, all_e, upd_i}
+use base.Logic.{SProp, ex, all, guard, upd, all_e, upd_i}
 use base.Fml.{Share, Fml, ftrue, fsep, fex, flft, fdead}
-use types.Logic.{Logic, sem}
-use types.Kit.{‵, raw, ◌⊛◌, some, given, ◌$◌, ◌∵◌, !, qed, by, move, keep, drop, split, fsplit, fsplit3, fjoin, fjoin3, fpick, fpack, pick, learn, show, check, frame, assume, suffices, settle, done, use1, use2, rewrite}
+use types.Logic.{Logic}
+use types.Kit.{‵, raw, ◌⊛◌, some, given, ◌$◌, ◌∵◌, !, qed, by, move, keep, drop, split, fsplit, fsplit3, fjoin, fjoin3, fpick, fpack, pick, learn, show, check, frame, assume, done}
+use types.Kit.{suffices, settle, use1, use2, rewrite}
 use denote.RattleType.{RattleType}
 use denote.RawPtr.{block_ptr}
 use denote.Steps.{nothing}
@@ -26,28 +27,24 @@ use Rattle.counted_block.specs.Counts.{Same, More, Less}
 use Rattle.counted_block.proofs.Opening.{Lies, Ends, entered}
 use Rattle.counted_block.proofs.Shelves.{acts, same_size}
 use Rattle.counted_block.proofs.Counting as counting
+use Rattle.counted_block.proofs.Signs.{Signs, signs}
 
 set_first : (ns : List ℕ) (n : ℕ) → length ns ≡ 1 → n ≡ get_or (set ns 0 n) 0 0
 set_first [] n l = absurd (omega arith)
 set_first (m ∷ ms) n l = refl
 
-module _ {M : Type 1} {𝓤 : Ura M} (𝓛 : Logic 𝓤) (R Q : RattleType) {V : Type 0} (cv : Coded V) (holds : State (Place R.Denot Q.Denot) V → Type 0) (out : ℕ → ℕ) (P : Fml) (z : BlockId) where
+module _ {M : Type 1} {𝓤 : Ura M} (𝓛 : Logic 𝓤) (R Q : RattleType) {V : Type 0} (cv : Coded V) (holds : State (Place R.Denot Q.Denot) V → Type 0) (out : ℕ → ℕ) (P : Fml)
+    (z : BlockId) where
   open 𝓛 use {H, A}
 
   abbrev Pr : Type 2
   Pr = SProp 𝓤
 
-  abbrev ⟦◌⟧ : Fml → Pr
-  ⟦ X ⟧ = sem 𝓛 X
+  abbrev 𝓝 : Signs 𝓛
+  𝓝 = signs 𝓛
 
-  abbrev ◌⊢◌ : Pr → Pr → Type 1
-  X ⊢ Y = ent 𝓤 X Y
+  open 𝓝 use {⟦◌⟧, ◌⊢◌, ◌∗◌}
 
-  abbrev ◌∗◌ : Pr → Pr → Pr
-  X ∗ Y = sep 𝓤 X Y
-
-  infix 26 ◌⊢◌
-  infixr 35 ◌∗◌
   abbrev S : Type 0
   S = Place R.Denot Q.Denot
 
@@ -77,21 +74,23 @@ module _ {M : Type 1} {𝓤 : Ura M} (𝓛 : Logic 𝓤) (R Q : RattleType) {V :
     G = ex 𝓤 (Lies 𝓛 J b o f after)
 
     with_closer : (y : Bool) (s : State S V) (h : ℕ) → ⟦ standing R Q cv.code holds out P z (y, (s, h)) ⟧ ∗ E ⊢ upd 𝓤 G
-    with_closer false s h = qed 𝓛 (‵ (standing R Q cv.code holds out P z (false, (s, h))) ∷ raw E ∷ []) ∵ fsplit3 ! $ move ! (1 ∷ []) $ fsplit3 ! $ move ! (1 ∷ []) $ fsplit ! $ keep ! (6 ∷ 1 ∷ []) $ by ! (here (upd 𝓤 G))
-    with_closer true s h = let n : ℕ = word_of s in qed 𝓛 (‵ (standing R Q cv.code holds out P z (true, (s, h))) ∷ raw E ∷ []) ∵ suffices ! _ (upd_i 𝓤 G) $ fsplit3 ! $ move ! (2 ∷ []) $ fsplit ! $ move ! (1 ∷ []) $ fsplit ! $ move ! (1 ∷ []) $ fpick ! (λ so. drop ! $
+    with_closer false s h = qed 𝓛 (‵ (standing R Q cv.code holds out P z (false, (s, h))) ∷ raw E ∷ []) ∵ fsplit3 ! $ move ! (1 ∷ []) $ fsplit3 ! $ move ! (1 ∷ []) $ fsplit ! $
+        keep ! (6 ∷ 1 ∷ []) $ by ! (here (upd 𝓤 G))
+    with_closer true s h = let n : ℕ = word_of s in qed 𝓛 (‵ (standing R Q cv.code holds out P z (true, (s, h))) ∷ raw E ∷ []) ∵ suffices ! _ (upd_i 𝓤 G) $ fsplit3 ! $
+        move ! (2 ∷ []) $ fsplit ! $ move ! (1 ∷ []) $ fsplit ! $ move ! (1 ∷ []) $ fpick ! (λ so. drop ! $
         -- [the roster; the slots and what is lent; the words; the counts; E]
-        move ! (2 ∷ []) $ fsplit ! $ use1 𝓛 (given (lib.Dec.T (has_ty (ty_int w64) (vint w64 n)) × WT (vint w64 n)) (‵ (word b o n))) (𝓛.laws.at_wt full_share (ty_int w64) b o (vint w64 n)) $ learn ! (λ typed.
-        show ! (Lies 𝓛 J b o f after) n $ frame ! $ assume ! (‵ (word b o (f n))) $ show ! (λ (ls : List ℕ). Ends 𝓛 J b o f after ls n) [] $
+        move ! (2 ∷ []) $ fsplit ! $ use1 𝓛 (given (lib.Dec.T (has_ty (ty_int w64) (vint w64 n)) × WT (vint w64 n)) (‵ (word b o n))) (𝓛.laws.at_wt full_share (ty_int w64) b o
+        (vint w64 n)) $ learn ! (λ typed. show ! (Lies 𝓛 J b o f after) n $ frame ! $ assume ! (‵ (word b o (f n))) $ show ! (λ (ls : List ℕ). Ends 𝓛 J b o f after ls n) [] $
         -- [the word; the holds; the roster; the slots and what is lent; the counts; E]
-        move ! (3 ∷ []) $ fsplit ! $ move ! (0 ∷ 4 ∷ []) $ fjoin ! $ move ! (4 ∷ 0 ∷ []) $ fjoin ! $ move ! (0 ∷ 4 ∷ []) $ use2 𝓛 (raw (upd 𝓤 (ex 𝓤 (Next f after s h)))) (law s h so typed.1.fits) $ let Z : Pr = ⟦ J ⟧ ∗ ⟦ after n ⟧ in
-        settle 𝓛 Z (some (λ (t : State S V). given ((t.words ≡ set s.words 0 (f n)) × holds t × (length t.homes ≡ 2)) (‵ (body (f n) h t) ⊛ ‵ (after n)))) $ pick ! (λ t. learn ! (λ good. split ! $ fsplit3 ! $
-        let fits : Fits holds t = (good.1, subst (λ (ws : List ℕ). length ws ≡ 1) (sym good.0) (length-set s.words 0 (f n) ∙ so.1), good.2) in
-        let is : f n ≡ word_of t = set_first s.words (f n) so.1 ∙ ap (λ (ws : List ℕ). get_or ws 0 0) (sym good.0) in
+        move ! (3 ∷ []) $ fsplit ! $ move ! (0 ∷ 4 ∷ []) $ fjoin ! $ move ! (4 ∷ 0 ∷ []) $ fjoin ! $ move ! (0 ∷ 4 ∷ []) $ use2 𝓛 (raw (upd 𝓤 (ex 𝓤 (Next f after s h))))
+        (law s h so typed.1.fits) $ let Z : Pr = ⟦ J ⟧ ∗ ⟦ after n ⟧ in settle 𝓛 Z (some (λ (t : State S V). given ((t.words ≡ set s.words 0 (f n)) × holds t × (length t.homes ≡
+        2)) (‵ (body (f n) h t) ⊛ ‵ (after n)))) $ pick ! (λ t. learn ! (λ good. split ! $ fsplit3 ! $ let fits : Fits holds t =
+        (good.1, subst (λ (ws : List ℕ). length ws ≡ 1) (sym good.0) (length-set s.words 0 (f n) ∙ so.1), good.2) in let is : f n ≡ word_of t = set_first s.words (f n) so.1 ∙
+        ap (λ (ws : List ℕ). get_or ws 0 0) (sym good.0) in
         -- [the counts; the slots; the roster; what is after; what is lent; the word; the holds]
-        nothing ! $ fpack ! (Fits holds t) (λ _. ftrue) fits $ move ! (3 ∷ 0 ∷ []) $ fjoin ! $ move ! (2 ∷ 4 ∷ []) $ fjoin ! $ move ! (0 ∷ 1 ∷ []) $ fjoin ! $ move ! (3 ∷ 4 ∷ []) $ fjoin ! $
-        rewrite ! 0 (λ (m : ℕ). ‵ (words_in z m h)) is refl $ rewrite ! 2 (λ (m : ℕ). ‵ (Counts true m h)) is refl $
-        move ! (0 ∷ 2 ∷ 1 ∷ []) $ fjoin3 ! $ fpack ! (Bool × (State S V × ℕ)) (standing R Q cv.code holds out P z) (true, (t, h)) $ fpack ! Bool (stands R Q cv.code holds out P z) true $
-        suffices ! _ (upd_i 𝓤 Z) $ done !))))
+        nothing ! $ fpack ! (Fits holds t) (λ _. ftrue) fits $ move ! (3 ∷ 0 ∷ []) $ fjoin ! $ move ! (2 ∷ 4 ∷ []) $ fjoin ! $ move ! (0 ∷ 1 ∷ []) $ fjoin ! $ move ! (3 ∷ 4 ∷ []) $
+        fjoin ! $ rewrite ! 0 (λ (m : ℕ). ‵ (words_in z m h)) is refl $ rewrite ! 2 (λ (m : ℕ). ‵ (Counts true m h)) is refl $ move ! (0 ∷ 2 ∷ 1 ∷ []) $ fjoin3 ! $
+        fpack ! (Bool × (State S V × ℕ)) (standing R Q cv.code holds out P z) (true, (t, h)) $ fpack ! Bool (stands R Q cv.code holds out P z) true $ suffices ! _ (upd_i 𝓤 Z) $ done !))))
 
     either_way : (y : Bool) → ⟦ stands R Q cv.code holds out P z y ⟧ ∗ E ⊢ upd 𝓤 G
     either_way false = qed 𝓛 (‵ (stands R Q cv.code holds out P z false) ∷ raw E ∷ []) ∵ fsplit ! $ fsplit ! $ keep ! (3 ∷ 1 ∷ []) $ by ! (here (upd 𝓤 G))
@@ -109,16 +108,15 @@ module _ {M : Type 1} {𝓤 : Ura M} (𝓛 : Logic 𝓤) (R Q : RattleType) {V :
     after left n = fsep (left n) (fex (Me S V) (goes n))
 
     moved : (before : Fml) (left : ℕ → Fml) → ((Z : Pr) → ⟦ before ⟧ ∗ A.dead (stay z) ⊢ Z)
-        → ((s : State S V) (h : ℕ) → holds s → get_elem? s.views id ≡ maybe.some me.0 → ⟦ Counts true (word_of s) h ⟧ ∗ ⟦ before ⟧ ⊢ ⟦ Counts true (f (word_of s)) h ⟧ ∗ ⟦ left (word_of s) ⟧)
-        → A.inv J ∗ ⟦ before ⟧ ∗ ⟦ seat_owns R Q z cv.code id me ⟧ ⊢ asks 𝓛 (block_ptr b o) f always (after left)
+        → ((s : State S V) (h : ℕ) → holds s → get_elem? s.views id ≡ maybe.some me.0 → ⟦ Counts true (word_of s) h ⟧ ∗ ⟦ before ⟧ ⊢ ⟦ Counts true (f (word_of s)) h ⟧
+        ∗ ⟦ left (word_of s) ⟧) → A.inv J ∗ ⟦ before ⟧ ∗ ⟦ seat_owns R Q z cv.code id me ⟧ ⊢ asks 𝓛 (block_ptr b o) f always (after left)
     moved before left here trades = opened f (after left) (⟦ before ⟧ ∗ ⟦ seat_owns R Q z cv.code id me ⟧)
-        (λ Z. qed 𝓛 ((‵ before ⊛ ‵ (seat_owns R Q z cv.code id me)) ∷ ‵ (fdead (stay z)) ∷ []) ∵ split ! $ keep ! (0 ∷ 2 ∷ []) $ by ! (here Z))
-        (λ s h so small. let n : ℕ = word_of s in let γ : ℕ = z.views in
-        qed 𝓛 (‵ (body n h s) ∷ ‵ before ∷ ‵ (seat_owns R Q z cv.code id me) ∷ []) ∵ fsplit3 ! $ move ! (4 ∷ []) $ fsplit ! $ move ! (4 ∷ 0 ∷ []) $
-        use2 𝓛 (given (get_elem? s.views id ≡ maybe.some me.0) (raw (all 𝓤 (Moved 𝓛 cv γ 0 s.views id id)))) (moves 𝓛 cv γ s.views 0 id id me.0 (omega arith)) $ learn ! (λ at.
-        let r = asked s so.0 so.2 at small in let u : V = r.0 in let a : Act S = r.1 in let t : State S V = stepped s 0 (f n) id me.1 u a in let me' : Me S V = (u, carried_after me.1 a) in
-        let Z : Pr = ex 𝓤 (Next f (after left) s h) in
-        use1 𝓛 (raw (Moved 𝓛 cv γ 0 s.views id id u)) (all_e 𝓤 (Moved 𝓛 cv γ 0 s.views id id) u) $ settle 𝓛 Z (‵ (roster cv.code γ 0 t.views) ⊛ ‵ (seen cv.code γ id three_quarters u)) $ suffices ! _ (upd_i 𝓤 Z) $ split ! $
+        (λ Z. qed 𝓛 ((‵ before ⊛ ‵ (seat_owns R Q z cv.code id me)) ∷ ‵ (fdead (stay z)) ∷ []) ∵ split ! $ keep ! (0 ∷ 2 ∷ []) $ by ! (here Z)) (λ s h so small. let n : ℕ =
+        word_of s in let γ : ℕ = z.views in qed 𝓛 (‵ (body n h s) ∷ ‵ before ∷ ‵ (seat_owns R Q z cv.code id me) ∷ []) ∵ fsplit3 ! $ move ! (4 ∷ []) $ fsplit ! $
+        move ! (4 ∷ 0 ∷ []) $ use2 𝓛 (given (get_elem? s.views id ≡ maybe.some me.0) (raw (all 𝓤 (Moved 𝓛 cv γ 0 s.views id id)))) (moves 𝓛 cv γ s.views 0 id id me.0
+        (omega arith)) $ learn ! (λ at. let r = asked s so.0 so.2 at small in let u : V = r.0 in let a : Act S = r.1 in let t : State S V = stepped s 0 (f n) id me.1 u a in
+        let me' : Me S V = (u, carried_after me.1 a) in let Z : Pr = ex 𝓤 (Next f (after left) s h) in use1 𝓛 (raw (Moved 𝓛 cv γ 0 s.views id id u)) (all_e 𝓤 (Moved 𝓛 cv γ 0 s.views
+        id id) u) $ settle 𝓛 Z (‵ (roster cv.code γ 0 t.views) ⊛ ‵ (seen cv.code γ id three_quarters u)) $ suffices ! _ (upd_i 𝓤 Z) $ split ! $
         -- [the roster; the view; what the seat carries; the counts; the slots; before]
         move ! (4 ∷ 2 ∷ []) $ use2 𝓛 (‵ (shelf R Q z 0 t.homes) ⊛ ‵ (carried R Q z me'.1)) (acts 𝓛 R Q z s.homes me.1 a so.2 r.2) $ split ! $
         move ! (4 ∷ 5 ∷ []) $ use2 𝓛 (‵ (Counts true (f n) h) ⊛ ‵ (left n)) (trades s h so.0 at) $ split ! $
@@ -139,9 +137,11 @@ module _ {M : Type 1} {𝓤 : Ura M} (𝓛 : Logic 𝓤) (R Q : RattleType) {V :
       with_more counts n = fsep token (parts_if (counts n) z)
 
       -- maybe one more, which the caller gets
-      pub gains : (counts : ℕ → Bool) → More holds out id me.0 f counts → A.inv J ∗ ⟦ token ⟧ ∗ ⟦ seat_owns R Q z cv.code id me ⟧ ⊢ asks 𝓛 (block_ptr b o) f always (after (with_more counts))
+      pub gains : (counts : ℕ → Bool) → More holds out id me.0 f counts → A.inv J ∗ ⟦ token ⟧ ∗ ⟦ seat_owns R Q z cv.code id me ⟧ ⊢ asks 𝓛 (block_ptr b o) f always
+          (after (with_more counts))
       gains counts more = moved token (with_more counts) (counting.token_dead 𝓛 z.tally q) (λ s h so at. let n : ℕ = word_of s in qed 𝓛 (‵ (Counts true n h) ∷ ‵ token ∷ []) ∵
-          use1 𝓛 (‵ (Counts true (f n) h) ⊛ ‵ (parts_if (counts n) z)) (counting.more_by 𝓛 R Q cv holds out P z n (f n) h (counts n) (more s so at)) $ split ! $ frame ! $ move ! (1 ∷ 0 ∷ []) $ fjoin ! $ done !)
+          use1 𝓛 (‵ (Counts true (f n) h) ⊛ ‵ (parts_if (counts n) z)) (counting.more_by 𝓛 R Q cv holds out P z n (f n) h (counts n) (more s so at)) $ split ! $ frame ! $
+          move ! (1 ∷ 0 ∷ []) $ fjoin ! $ done !)
 
     parts_here : (Z : Pr) → ⟦ parts z ⟧ ∗ A.dead (stay z) ⊢ Z
     parts_here Z = qed 𝓛 (‵ (parts z) ∷ ‵ (fdead (stay z)) ∷ []) ∵ fsplit ! $ keep ! (1 ∷ 2 ∷ []) $ by ! (counting.part_dead 𝓛 z.tally 62 Z)
@@ -150,5 +150,6 @@ module _ {M : Type 1} {𝓤 : Ura M} (𝓛 : Logic 𝓤) (R Q : RattleType) {V :
     kept_where counts n = parts_if (not (counts n)) z
 
     -- maybe one less, which the caller had
-    pub ends_one : (counts : ℕ → Bool) → Less holds out id me.0 f counts → A.inv J ∗ ⟦ parts z ⟧ ∗ ⟦ seat_owns R Q z cv.code id me ⟧ ⊢ asks 𝓛 (block_ptr b o) f always (after (kept_where counts))
+    pub ends_one : (counts : ℕ → Bool) → Less holds out id me.0 f counts → A.inv J ∗ ⟦ parts z ⟧ ∗ ⟦ seat_owns R Q z cv.code id me ⟧ ⊢ asks 𝓛 (block_ptr b o) f always
+        (after (kept_where counts))
     ends_one counts less = moved (parts z) (kept_where counts) parts_here (λ s h so at. let n : ℕ = word_of s in counting.less_by 𝓛 R Q cv holds out P z n (f n) h (counts n) (less s so at))

@@ -83,13 +83,22 @@ module _ (R Q : RattleType) (s : IsSend R) (s' : IsSend Q) (z : BlockId) where
     kept_keyless : Keyless (kept R Q c holds out P z)
     kept_keyless = stands_keyless
 
-module _ (R Q T A : RattleType) (h : Ghosts A.Denot) (f : Frees h h.dealloc_token) (sr : IsSend R) (sq : IsSend Q) (s : IsSend T) (y : IsSync T) {V : Type 0} (c : V → Gv) (holds : State (Place R.Denot Q.Denot) V → Type 0) (out : ℕ → ℕ) (heap : A.Denot) (z : BlockId) (x : T.Denot) where
+module _ (R Q T A : RattleType) (h : Ghosts A.Denot) (f : Frees h h.dealloc_token) (sr : IsSend R) (sq : IsSend Q) (s : IsSend T) (y : IsSync T) {V : Type 0} (c : V →
+    Gv) (holds : State (Place R.Denot Q.Denot) V → Type 0) (out : ℕ → ℕ) (heap : A.Denot) (z : BlockId) (x : T.Denot) where
   abbrev k : Ty → Ptr → Fml
   k = h.dealloc_token heap
 
   whole : Keyless (content R Q T k z x)
-  whole = let v = lies T s (place z +ₚ at_value R Q T) x in
-      (v, λ m. (((tt, tt), ((part_keyless R sr full_share m.1.0 _ _, part_keyless Q sq full_share m.1.1 _ _), v)), (lies (inner.the_row R Q T) (the_send R Q T sr sq s) (place z) record { word = m.0.0; holds = m.0.1; first = m.1.0; second = m.1.1; value = x }, f.frees heap (bare_ty (lone (inner.the_row R Q T).mir)) (place z))))
+  whole = let v = lies T s (place z +ₚ at_value R Q T) x in (
+    v,
+    λ m. (
+      ((tt, tt), ((part_keyless R sr full_share m.1.0 _ _, part_keyless Q sq full_share m.1.1 _ _), v)),
+      (
+        lies (inner.the_row R Q T) (the_send R Q T sr sq s) (place z) record { word = m.0.0; holds = m.0.1; first = m.1.0; second = m.1.1; value = x },
+        f.frees heap (bare_ty (lone (inner.the_row R Q T).mir)) (place z),
+      ),
+    ),
+  )
 
   pub ledger_keyless : Keyless (kept_of R Q T c holds out k z x)
   ledger_keyless = kept_keyless R Q sr sq z c holds out (content R Q T k z x) whole

@@ -108,9 +108,7 @@ impl<S, W, V, K, P: BlockRule<S, W, V, K>, T, A: Allocator> Share<S, W, V, K, P,
     pub fn ledger(&self) -> Ledger<S, W, V, K, P, T, A>
         ensures { (result.id ≡ self.now.id) × (result.key ≡ self.now.key) × (result.value ≡ self.now.value) × (result.heap ≡ self.now.heap) }
     {
-        Ledger {
-            marker: PhantomData,
-        }
+        self.gone().none()
     }
 }
 

@@ -7,6 +7,7 @@ use crate::rule::BlockRule;
 use crate::seat::Seat;
 use crate::share::Share;
 use std::alloc::Allocator;
+use std::mem;
 
 impl<S, W, V, K, P: BlockRule<S, W, V, K>, T, A: Allocator> Share<S, W, V, K, P, T, A> {
     /// Writes `new` into the slot 0, which `seat` took last, and answers what it had. Plain memory, no step: nobody else reaches a slot that is out.
@@ -15,12 +16,7 @@ impl<S, W, V, K, P: BlockRule<S, W, V, K>, T, A: Allocator> Share<S, W, V, K, P,
         requires taken { (old : S) × (seat.old.me.1 ≡ (0, First old) ∷ rest seat.old.me.1) }
         ensures { (seat.new.block ≡ seat.old.block) × (seat.new.id ≡ seat.old.id) × (seat.old.me.1 ≡ (0, First result) ∷ rest seat.old.me.1) × (seat.new.me ≡ (seat.old.me.0, (0, First new) ∷ rest seat.old.me.1)) }
     {
-        unsafe {
-            let at = &raw const (*self.at).first as *mut S;
-            let old = at.read();
-            at.write(new);
-            old
-        }
+        mem::replace(seat.first_mut(self), new)
     }
 
     /// The same with the slot 1.

@@ -20,15 +20,16 @@ use Rattle.counted_block.specs.Held.{content, looked_at, kept_of, lies_in}
 use Rattle.counted_block.proofs.Lending.{held_laws, lends_hold}
 use Rattle.counted_block.proofs.hold.Hold.TheLaw.Statement.{statement}
 
-pub shares : (S W V K Y T A : RattleType) (g : Ghosts Y.Denot S.Denot W.Denot V.Denot K.Denot) (h : Alloc.Ghosts A.Denot) (LS : Laws S) (LW : Laws W) (LV : Laws V) (LK : Laws K) (LY : Laws Y) (LT : Laws T) (LA : Laws A)
+pub shares : (S W V K Y T A : RattleType) (g : Ghosts Y.Denot S.Denot W.Denot V.Denot K.Denot) (h : Alloc.Ghosts A.Denot) (LS : Laws S) (LW : Laws W) (LV : Laws V) (LK : Laws K) (LY : Laws Y)
+    (LT : Laws T) (LA : Laws A)
     → statement S W V K Y T A g h LS LW LV LK LY LT LA
 shares S W V K Y T A g h LS LW LV LK LY LT LA = let Marked = Tuple (V ∷ K ∷ Y ∷ A ∷ []) in
-    of_Lends (C.struct S W V K Y T A g h) (C.the_codes S.Denot W.Denot V.Denot K.Denot Y.Denot T.Denot A.Denot S.coded W.coded V.coded K.coded Y.coded T.coded A.coded (phantom.the_row Marked).coded) (C.the_heap S W V K Y T A g h) (C.the_lent S W V K Y T A g h)
-    (λ d p. let k = h.dealloc_token d.heap in let z = d.id in let t = looked_at S W T k z d.value in
-    beside_shr_laws (said (lies_in S W T V.coded.code (g.holds d.key) g.out k z d.value d.at)) (hold_shares (kept_of S W T V.coded.code (g.holds d.key) g.out k z d.value) t z) (said_shr_laws (lies_in S W T V.coded.code (g.holds d.key) g.out k z d.value d.at) (λ _. tt))
-    (held_laws S W V.coded.code (g.holds d.key) g.out (content S W T k z d.value) z t (lent_at_shr_laws T LT.shr_laws (place z +ₚ at_value S W T) d.value)))
-    (copy_shared RawPtr-field RawPtr-copy, (copy_shared (phantom.the_field Marked) (field_copy (phantom.the_type Marked) tt), tt))
-    (λ M 𝓤 𝓛 d p. let k = h.dealloc_token d.heap in let z = d.id in let t = looked_at S W T k z d.value in let l = (C.the_row S W V K Y T A g h).lives in let lies = lies_in S W T V.coded.code (g.holds d.key) g.out k z d.value d.at in
-    Lends-both 𝓛 lies (hold_owns (kept_of S W T V.coded.code (g.holds d.key) g.out k z d.value) t z) (said lies) (hold_shares (kept_of S W T V.coded.code (g.holds d.key) g.out k z d.value) t z) l
-    (Lends-said 𝓛 lies (λ _. tt) l)
-    (lends_hold S W V.coded.code (g.holds d.key) g.out (content S W T k z d.value) z t (lent_at_shr_laws T LT.shr_laws (place z +ₚ at_value S W T) d.value) 𝓛 l))
+    of_Lends (C.struct S W V K Y T A g h) (C.the_codes S.Denot W.Denot V.Denot K.Denot Y.Denot T.Denot A.Denot S.coded W.coded V.coded K.coded Y.coded T.coded A.coded (phantom.the_row Marked).coded)
+    (C.the_heap S W V K Y T A g h) (C.the_lent S W V K Y T A g h) (λ d p. let k = h.dealloc_token d.heap in let z = d.id in let t = looked_at S W T k z d.value in
+    beside_shr_laws (said (lies_in S W T V.coded.code (g.holds d.key) g.out k z d.value d.at)) (hold_shares (kept_of S W T V.coded.code (g.holds d.key) g.out k z d.value) t z) (said_shr_laws
+    (lies_in S W T V.coded.code (g.holds d.key) g.out k z d.value d.at) (λ _. tt)) (held_laws S W V.coded.code (g.holds d.key) g.out (content S W T k z d.value) z t (lent_at_shr_laws T LT.shr_laws
+    (place z +ₚ at_value S W T) d.value))) (copy_shared RawPtr-field RawPtr-copy, (copy_shared (phantom.the_field Marked) (field_copy (phantom.the_type Marked) tt), tt)) (λ M 𝓤 𝓛 d p. let k =
+    h.dealloc_token d.heap in let z = d.id in let t = looked_at S W T k z d.value in let l = (C.the_row S W V K Y T A g h).lives in let lies = lies_in S W T V.coded.code (g.holds d.key) g.out k z
+    d.value d.at in Lends-both 𝓛 lies (hold_owns (kept_of S W T V.coded.code (g.holds d.key) g.out k z d.value) t z) (said lies) (hold_shares (kept_of S W T V.coded.code (g.holds d.key) g.out k z
+    d.value) t z) l (Lends-said 𝓛 lies (λ _. tt) l) (lends_hold S W V.coded.code (g.holds d.key) g.out (content S W T k z d.value) z t (lent_at_shr_laws T LT.shr_laws (place z +ₚ at_value S W T)
+    d.value) 𝓛 l))

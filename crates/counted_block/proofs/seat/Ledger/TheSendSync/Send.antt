@@ -5,5 +5,7 @@ use Rattle.counted_block.specs.declared.rule.BlockRule.{Ghosts}
 use Rattle.counted_block.specs.contracts.seat.Ledger.{the_row}
 use Rattle.counted_block.proofs.Sent.{ledger_keyless}
 
-pub send : (S W V K P T A : RattleType) (g : Ghosts P.Denot S.Denot W.Denot V.Denot K.Denot) (h : Alloc.Ghosts A.Denot) → IsSend S → IsSend W → IsSend T → IsSend A → IsSync T → IsSync A → Frees h h.dealloc_token → IsSend (the_row S W V K P T A g h)
-send S W V K P T A g h ss sw s sa y ya f = record { owned = λ d vs. ((λ vss. (tt, ((λ uss. (tt, tt)), tt))), ledger_keyless S W T A h f ss sw s y V.coded.code (g.holds d.key) g.out d.heap d.id d.value); leaving = λ k w vs. tt }
+pub send : (S W V K P T A : RattleType) (g : Ghosts P.Denot S.Denot W.Denot V.Denot K.Denot) (h : Alloc.Ghosts A.Denot) → IsSend S → IsSend W → IsSend T → IsSend A → IsSync T → IsSync A
+    → Frees h h.dealloc_token → IsSend (the_row S W V K P T A g h)
+send S W V K P T A g h ss sw s sa y ya f =
+    record { owned = λ d vs. ((λ vss. (tt, ((λ uss. (tt, tt)), tt))), ledger_keyless S W T A h f ss sw s y V.coded.code (g.holds d.key) g.out d.heap d.id d.value); leaving = λ k w vs. tt }

@@ -1,62 +1,21 @@
--- `fetch_and` is one step on the word of the block, and the seat goes with it.
-use Rattle.counted_block.proofs.Names.{◌≡◌, ℕ, ◌+◌, ◌^◌, List, [], ◌∷◌, sym, refl, ap, ◌∙◌, lit<, w64, a_type, named, dcons, dnil, Val, vint, vptr, inst_fn, SProp, emp, Lft, Fml, ftrue, flft, fhide, finv, ‵, raw, ◌⊛◌, given, mean, at_ret, ◌$◌, ◌∵◌, !, qed, by, move, keep, drop, split, split3, join, fsplit, fsplit3, fjoin, fjoin3, fpick, learn, use0, use1, use3, via, rewrite, feq_i, flt_i, stop, hop, fld, addr, lit, of_opd, no_more, and_then, first, blocks, exec, Calls-last, returns, enter, alloc_all, pass_all, free_all, look_at, get, through, sets, lands_last, env, agg, sub, whole, look_in, tables, fact, fact_i, yes, RattleType, owns, types_at, plain, Ptr, block_ptr, nothing, peeks, looks, shuts, opens, closes, unhide, Is, shows, cell_at, hidden_shr, param, bounded, RefOf, shr_vals, shr_Tells, mut_vals, mut_Tells, lent_out, shr_bor-open, obor_close, tokens_halve, Stays, stay_dropped, stay_ref, walk_of, Goes-dropped, Goes-ref, after, proved, leaves, fm, seq_cst, found, finds, u64, uint_vals, uint_Tells, ands}
+-- `fetch_and` is a fetch, and the seat goes with it.
+use Rattle.counted_block.proofs.Names.{◌≡◌, ℕ, [], ◌∷◌, sym, refl, emp, ftrue, ‵, raw, given, ◌$◌, ◌∵◌, !, qed, by, keep, drop, learn, fact, fact_i, step, Allows, Same}
+use Rattle.counted_block.proofs.Names.{picked, inst_fn, ands, bit_and}
 use mathlib.Core.Option as maybe
-use Rattle.std.specs.Prelude.{bit_and}
-use Rattle.std.specs.contracts.marker.PhantomData as phantom
-use Rattle.atomic_table.specs.Table.{Me, step, Allows}
-use Rattle.counted_block.specs.declared.place.Place.{Place}
-use Rattle.counted_block.specs.Blocks.{BlockId, stay, place, seat_owns, block}
-use Rattle.counted_block.specs.Counts.{Same}
-use Rattle.counted_block.specs.Held.{content, share_shown}
-use Rattle.counted_block.proofs.Tokens.{tokens}
-use Rattle.counted_block.specs.contracts.share.Share as share
-use Rattle.counted_block.specs.contracts.seat.Seat as seat
-use Rattle.counted_block.proofs.Fields.{ptr_and_marker, Marked, ShareData, share_told, share_opens}
-use Rattle.counted_block.proofs.Keeping.{kept_inv}
-use Rattle.counted_block.proofs.Moving as moving
-use Rattle.counted_block.specs.contracts.share.Share.fetch_and.{ended, clauses}
+use Rattle.core.proofs.raw_atomic.fetch_and.Symbol as called
+use Rattle.counted_block.specs.contracts.share.Share.fetch_and.{clauses}
 use Rattle.counted_block.specs.contracts.share.Share.fetch_and.Key.{name as #self}
 use Rattle.counted_block.proofs.share.Share.fetch_and.Statement.{statement}
 use Rattle.counted_block.proofs.share.Share.fetch_and.Code as code
+use Rattle.counted_block.proofs.Fetching as fetching
 
 pub fetch_and_spec : {M : Type 1} → statement M
 fetch_and_spec 𝓤 𝓛 𝓜 𝓡 wired S₀ W₀ V₀ K₀ Y₀ T₀ A₀ M₀ _ _ _ _ _ _ _ _ g d h dh dd m dm _ _ _ _ =
-    let H = 𝓛.H in let machine = tables 𝓤 H 𝓜 𝓡 𝓡.env in let S : RattleType = param 0 S₀ in let W : RattleType = param 1 W₀ in let V = param 2 V₀ in let K = param 3 K₀ in let Y = param 4 Y₀ in let R : RattleType = param 5 T₀ in let A = param 6 A₀ in
-    let promise = ended S₀ W₀ V₀ K₀ Y₀ T₀ A₀ M₀ g d h dh dd m dm in let claims = clauses S₀ W₀ V₀ K₀ Y₀ T₀ A₀ M₀ g d h dh dd m dm 𝓛 𝓜.mem 𝓡.returns in
-    let at_types = bounded (a_type ∷ a_type ∷ a_type ∷ a_type ∷ a_type ∷ a_type ∷ a_type ∷ a_type ∷ []) (S₀, (W₀, (V₀, (K₀, (Y₀, (T₀, (A₀, (M₀, tt)))))))) (dcons d (dcons dh (dcons dd (dcons dm dnil)))) in let routine = inst_fn at_types code.function in
-    let OwnRow : RattleType = share.the_row S W V K Y R A g h in let SeatRow : RattleType = seat.the_row S W V in let D : RattleType = ShareData S W V K Y R A g h in let self = RefOf (0 ∷ []) tt (plain (λ _. OwnRow)) (λ _. tt) in let by_mut = plain (λ _. SeatRow) in let number = plain (λ _. u64) in
-    let staying : Stays promise.signature.params promise.kept = (stay_dropped self yes, (stay_ref (1 ∷ []) tt by_mut, (stay_dropped number yes, tt))) in
-    proved 𝓛 promise staying claims 𝓜 𝓡 (Goes-dropped 𝓛 10 self yes (λ κs x f. refl), (Goes-ref 𝓛 10 1 tt by_mut, (Goes-dropped 𝓛 10 number yes (λ κs x f. refl), tt))) (#self at_types) routine (code.unfolded 𝓤 H 𝓜 𝓡 wired (S₀, (W₀, (V₀, (K₀, (Y₀, (T₀, (A₀, (M₀, tt)))))))) d dh dd dm)
-    (λ κs. (shr_vals, (mut_vals, (uint_vals w64, tt)))) (λ κs. (shr_Tells (named 0) κs.0 OwnRow, (mut_Tells (named 1) κs.1.0 SeatRow, (uint_Tells w64, tt)))) (λ κs qs bounds a gh are.
-    let self_block : ℕ = a.0.ref_ptr.0 in let self_offset : ℕ = a.0.ref_ptr.1 in let κ : Lft = κs.0 in let s : OwnRow.Denot = a.0.now in let p : Ptr = s.at in let x : R.Denot = s.value in let k = h.dealloc_token s.heap in let z : BlockId = s.id in let β : Lft = stay z in
-    let seat_block : ℕ = a.1.0.ref_ptr.0 in let seat_offset : ℕ = a.1.0.ref_ptr.1 in let t : SeatRow.Denot = a.1.0.now in let id : ℕ = t.id in let v : Me (Place S.Denot W.Denot) V.Denot = t.me in let w : ℕ = a.1.1.0 in let f : ℕ → ℕ = λ n. bit_and n w in let then : ℕ → Me (Place S.Denot W.Denot) V.Denot → Type 0 = m.then s.key (step 2 0 w 0 maybe.none) v in
-    let Beside : Fml = tokens ((κs.1.1.0, qs.1.1.0) ∷ (κs.1.1.1.0, qs.1.1.1.0) ∷ (κs.1.1.1.1.0, qs.1.1.1.1.0) ∷ (κs.1.1.1.1.1.0, qs.1.1.1.1.1.0) ∷ (κs.1.1.1.1.1.1.0, qs.1.1.1.1.1.1.0) ∷ (κs.1.1.1.1.1.1.1.0, qs.1.1.1.1.1.1.1.0) ∷ (κs.1.1.1.1.1.1.1.1.0, qs.1.1.1.1.1.1.1.1.0) ∷ (κs.1.1.1.1.1.1.1.1.1.0, qs.1.1.1.1.1.1.1.1.1.0) ∷ []) in
-    let pb : ℕ = z.block in let e : ℕ = z.offset + 0 in let P : Fml = content S W R k z x in let holds = g.holds s.key in let J : Fml = block S W V.coded.code holds g.out P z in
-    let start : (walk_of 𝓛 promise staying claims).Ghost = ((κs, qs, bounds, a, (vptr self_block self_offset ∷ [], (vptr seat_block seat_offset ∷ [], (vint w64 w ∷ [], tt)))), gh) in let returned : Val → SProp 𝓤 = (walk_of 𝓛 promise staying claims).post start in
-    qed 𝓛 (((‵ (flft κ qs.0) ⊛ ‵ (flft κs.1.0 qs.1.0) ⊛ ‵ Beside) ⊛ ‵ (owns (types_at promise.signature.params κs) a start.0.4)) ∷ raw (fact 𝓤 _) ∷ raw (fact 𝓤 _) ∷ raw (fact 𝓤 _) ∷ raw (fact 𝓤 _) ∷ raw (fact 𝓤 _) ∷ raw (fact 𝓤 _) ∷ raw (fact 𝓤 _) ∷ raw (fact 𝓤 _) ∷ given (t.block ≡ z) (‵ ftrue) ∷ given (Allows holds 2 id v 0 f then) (‵ ftrue) ∷ given (Same holds g.out id v.0 f) (‵ ftrue) ∷ []) ∵
-    keep ! (9 ∷ 10 ∷ 11 ∷ 0 ∷ []) $ learn ! (λ same. drop ! $ learn ! (λ allows. drop ! $ learn ! (λ counted. drop ! $ split ! $ split3 ! $ move ! (3 ∷ []) $ fsplit3 ! $ fsplit ! $ move ! (2 ∷ []) $ fsplit3 ! $ keep ! (4 ∷ 6 ∷ 1 ∷ 2 ∷ 7 ∷ 8 ∷ []) $
-    enter ! machine.C machine.Λ routine (vptr self_block self_offset ∷ vptr seat_block seat_offset ∷ vint w64 w ∷ []) returned $ alloc_all ! (λ l. pass_all ! refl ((tt, tt), ((tt, tt), ((tt, record { fits = are.1.1.0.1 }), tt))) $ let here = env routine.locals l in
-    use1 𝓛 (‵ (hidden_shr D κ (p, (tt, tt)) self_block self_offset) ⊛ ‵ (fhide (share_shown S W R V.coded.code holds g.out k z x p κ)))
-    (lent_out 𝓛 (share.struct S W V K Y R A g h) (share.the_codes S.Denot W.Denot V.Denot K.Denot Y.Denot R.Denot A.Denot S.coded W.coded V.coded K.coded Y.coded R.coded A.coded (phantom.the_row (Marked S W V K Y R A g h)).coded) (share.the_heap S W V K Y R A g h) (share.the_lent S W V K Y R A g h) κ s self_block self_offset) $
-    split ! $ move ! (1 ∷ []) $ unhide ! $ fsplit ! $ fpick ! (λ at. drop ! $ fsplit ! $ fsplit ! $ move ! (2 ∷ []) $ fsplit ! $ use1 𝓛 (‵ (finv J)) (kept_inv S W V.coded.code holds g.out P z 𝓛) $
-    -- [the invariant; the value; the two tokens, lent; the fields; the token; the seat, in two; its token; the others]
-    move ! (1 ∷ []) $ drop ! $ move ! (1 ∷ []) $ drop ! $ move ! (2 ∷ 3 ∷ 1 ∷ []) $
-    looks ! tt D (share_opens S W V K Y R A g h 𝓛) (p, (tt, tt)) self_block self_offset (λ q vs. move ! (1 ∷ []) $ peeks ! D (Is D) (shows 𝓛 D) (p, (tt, tt)) vs (λ is_so.
-    let ev : vs ≡ ptr_and_marker (place z) ∷ [] = share_told S W V K Y R A g h p vs is_so ∙ ap (λ (r : Ptr). ptr_and_marker r ∷ []) at in
-    rewrite ! 1 (λ (ws : List Val). ‵ (cell_at q D.mir ws self_block self_offset)) ev refl $ first ! $ blocks ! $
-    sets ! (addr ! (through ! refl (fld ! refl (hop ! (look_in ! 1 (sub ! 0 refl (whole !))) (fld ! refl (stop !)))))) refl (tt, tt) $
-    rewrite ! 1 (λ (ws : List Val). ‵ (cell_at q D.mir ws self_block self_offset)) (sym ev) refl $ move ! (1 ∷ 0 ∷ 2 ∷ []) $ shuts ! tt D q (p, (tt, tt)) vs self_block self_offset $
-    -- [the token; the fields; the tally's token, lent; the invariant; the seat, in two; its token; the others]
-    move ! (2 ∷ 0 ∷ []) $ shr_bor-open ! tt (tokens_halve 𝓛 β) (λ r. let out : ℕ → Fml = moving.after 𝓛 S W V.coded holds g.out P z id v f then allows (λ _. flft β r) in
-    move ! (4 ∷ 5 ∷ 6 ∷ []) $ opens ! tt SeatRow seat_block seat_offset (λ bits. move ! (1 ∷ []) $ fsplit ! $ rewrite ! 1 (λ (w : BlockId). ‵ (seat_owns S W w V.coded.code id v)) same refl $ move ! (9 ∷ 7 ∷ 1 ∷ []) $
-    use3 𝓛 (raw (machine.C _ (vptr pb e ∷ vint w64 w ∷ seq_cst ∷ []) (λ u. mean 𝓛 (found out u))))
-    (via 𝓤 _ (moving.looks 𝓛 S W V.coded holds g.out P z id v f then allows r counted) (ands 𝓛 𝓜 𝓡 (code.calls-std::sync::atomic::raw::fetch_and 𝓡.env wired) (block_ptr pb e) w are.1.1.0.1 out)) $
-    sets ! (agg ! (and_then ! (lit ! tt) (no_more !))) refl (tt, (record { fits = lit< tt }, tt)) $
-    Calls-last ! (fm 𝓛 𝓜 𝓡) (found out) (and_then ! (get ! refl) (and_then ! (get ! refl) (and_then ! (get ! refl) (no_more !)))) (λ u. finds ! out (λ n fits.
-    lands_last ! refl (tt, record { fits = fits }) $ exec ! machine.C machine.Λ here (after 1 routine.body) (at_ret here returned) $ sets ! (of_opd ! (get ! refl)) refl (tt, record { fits = fits }) $
-    fsplit ! $ move ! (7 ∷ 0 ∷ []) $ obor_close ! tt $ drop ! $ move ! (1 ∷ []) $ fpick ! (λ v'. fsplit ! $ fpick ! (λ so. drop ! $
-    let t' : SeatRow.Denot = record { marker = t.marker; block = z; id = id; me = v' } in let Told : Type 0 = (z ≡ t.block) × (id ≡ id) × then n v' in
-    move ! (2 ∷ 0 ∷ []) $ fjoin ! $ move ! (2 ∷ 0 ∷ 3 ∷ 4 ∷ 5 ∷ []) $ closes ! tt SeatRow t' bits seat_block seat_offset $ feq_i ! (List Val) (vptr seat_block seat_offset ∷ []) (vptr seat_block seat_offset ∷ []) refl $ fjoin3 ! $
-    nothing ! $ nothing ! $ fjoin ! $ move ! (1 ∷ 0 ∷ []) $ fjoin ! $ nothing ! $ fjoin ! $ move ! (1 ∷ 4 ∷ []) $ join ! $ move ! (2 ∷ 0 ∷ []) $ join ! $
-    use0 𝓛 (raw (fact 𝓤 Told)) (fact_i 𝓤 Told (emp 𝓤) (sym same, refl, so)) $ flt_i ! n (2 ^ 64) fits $ feq_i ! (List Val) (vint w64 n ∷ []) (vint w64 n ∷ []) refl $ fjoin ! $
-    returns ! (look_at ! 0 refl) $ free_all ! refl $ keep ! (2 ∷ 3 ∷ 0 ∷ 1 ∷ []) $ by ! (leaves 𝓛 promise staying claims start (vint w64 n) n (tt, (t', (tt, tt))) (tt, (tt, (tt, tt))))))))))))))))))
+    fetching.fetched 𝓛 𝓜 𝓡 S₀ W₀ V₀ K₀ Y₀ T₀ A₀ M₀ g d h dh dd m dm (λ w n. bit_and n w) (clauses S₀ W₀ V₀ K₀ Y₀ T₀ A₀ M₀ g d h dh dd m dm 𝓛 𝓜.mem
+    𝓡.returns) (inst_fn (fetching.at_types 𝓛 𝓜 𝓡 S₀ W₀ V₀ K₀ Y₀ T₀ A₀ M₀ g d h dh dd m dm) code.function) (called.name picked) (#self (fetching.at_types 𝓛 𝓜 𝓡 S₀
+    W₀ V₀ K₀ Y₀ T₀ A₀ M₀ g d h dh dd m dm)) (ands 𝓛 𝓜 𝓡 (code.calls-std::sync::atomic::raw::fetch_and 𝓡.env wired)) (code.unfolded 𝓤 𝓛.H 𝓜 𝓡 wired
+    (S₀, (W₀, (V₀, (K₀, (Y₀, (T₀, (A₀, (M₀, tt)))))))) d dh dd dm) (λ κs a gh X G go. let does : ℕ → ℕ → ℕ = λ w n. bit_and n w in
+    qed 𝓛 (raw X ∷ raw (fact 𝓤 _) ∷ raw (fact 𝓤 _) ∷ raw (fact 𝓤 _) ∷ raw (fact 𝓤 _) ∷ raw (fact 𝓤 _) ∷ raw (fact 𝓤 _) ∷ raw (fact 𝓤 _) ∷ raw (fact 𝓤 _) ∷
+    given (a.1.0.now.block ≡ a.0.now.id) (‵ ftrue) ∷ given (Allows (g.holds a.0.now.key) 2 a.1.0.now.id a.1.0.now.me 0 (does a.1.1.0) (m.then a.0.now.key (step 2 0 a.1.1.0 0 maybe.none) a.1.0.now.me))
+    (‵ ftrue) ∷ given (Same (g.holds a.0.now.key) g.out a.1.0.now.id a.1.0.now.me.0 (does a.1.1.0)) (‵ ftrue) ∷ []) ∵ keep ! (9 ∷ 10 ∷ 11 ∷ 0 ∷ []) $ learn ! (λ same. drop ! $
+    learn ! (λ allows. drop ! $ learn ! (λ counted. drop ! $ by ! (go same allows counted))))) (λ κs a gh n u same so. fact_i 𝓤 _ (emp 𝓤) (sym same, refl, so))
