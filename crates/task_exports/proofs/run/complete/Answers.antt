@@ -4,6 +4,7 @@ use Rattle.task_exports.specs.Answers.{GoesOn, complete_missed}
 use Rattle.task_exports.specs.declared.hand.Hand.{Hand}
 use Rattle.task_exports.proofs.Live.{of_cell}
 use Rattle.task_exports.proofs.Runs.{completed, kept_stands, completed_keeps, completed_drops}
+use Rattle.task_core.specs.Yielded.{unpolled}
 use Rattle.task_exports.proofs.run.complete.Goals as goal
 
 pub answer_ready-requires-clause-party : goal.answer_ready-requires-clause-party
@@ -54,3 +55,6 @@ returns-else-due c = let s = c.requires.party in let a = c.answer_ready.ensures 
     completed_drops _ _ _ _ _ g d (sym c.keeps_output.ensures ∙ c.if-keeps_output.false)
     (completed c.args.hand.share c.into_maybe-share.result c.share-share.result c.args.hand.party c.take.new.party c.complete_some-completed.new.party _ c.requires.hand c.share-share.ensures c.into_maybe-share.ensures g d)
     (ap (λ (b : Bool). if b then 6 else 5) (sym c.awaiter-due.ensures ∙ c.if-due.false))
+
+pub complete_some-completed-requires-clause-yielded : goal.complete_some-completed-requires-clause-yielded
+complete_some-completed-requires-clause-yielded c = let spawned = c.share-share.result.block.key.future.value in record { before = spawned; after = spawned; continued = unpolled; answered = tt }
