@@ -59,7 +59,7 @@ where
     Q: Schedule<Runnable<R, F, Q, M, A, X, B>>,
     F: Future<TaskWaker<R, F, Q, M, A, X, B>>,
     ensures deeds { DeedsAreSteps }
-    ensures paths { (cell : _) (around : _) → PathsAreActs (HandedOver Q.scheduled cell around) (PolledOnce F.polled cell around) ((a : A) × (r : A.Record) × A.woken a r) A.cloned A.woken A.woken_by_ref A.compared }
+    ensures paths { (spawned : _) (cell : _) (around : _) → PathsAreActs (HandedOver Q.scheduled cell around) (PolledOnce F.polled spawned cell around) ((a : A) × (r : A.Record) × A.woken a r) A.cloned A.woken A.woken_by_ref A.compared }
 {}
 
 /// Wherever the rule of a cell holds, its interleaving is a run of the small task that ends in the present word, in which each party of a seat did last

@@ -2,6 +2,7 @@
 use Rattle.std.specs.Prelude.{◌≡◌, Bool}
 use Rattle.task_core.specs.declared.traits.Poll.{Poll}
 use Rattle.task_core.specs.declared.traits.Yields.{Ghosts}
+use Rattle.task_core.specs.Yielded.{Continued}
 use Rattle.task_core.specs.declared.traits.ScheduleInfo.{ScheduleInfo}
 use Rattle.counted_block.specs.Blocks.{BlockId}
 use Rattle.task_cell.specs.declared.cell.Cell.{Cell}
@@ -22,6 +23,7 @@ module _ {R F Q M A X B O K : Type 0} {G : Ghosts F O} where
   LentTo polled cell around f answer g =
       (w : TaskWaker R F Q M A X B O K G) × (cell_of w.inner.share ≡ cell) × (w.around ≡ around) × polled f w answer g
 
-  -- .. as a run does
-  abbrev pub PolledOnce : (F → TaskWaker R F Q M A X B O K G → Poll O → F → Type 0) → BlockId × Cell R Q M B → X → Poll O → Type 0
-  PolledOnce polled cell around answer = (f : F) × (g : F) × LentTo polled cell around f answer g
+  -- .. as a run does: f is what polls that answered Pending have made of the future that was spawned, and its type states this poll
+  abbrev pub PolledOnce : (F → TaskWaker R F Q M A X B O K G → Poll O → F → Type 0) → F → BlockId × Cell R Q M B → X → Poll O → Type 0
+  PolledOnce polled spawned cell around answer =
+      (f : F) × (g : F) × Continued G.moves spawned f × G.moves f answer g × LentTo polled cell around f answer g

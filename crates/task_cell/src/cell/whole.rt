@@ -15,7 +15,7 @@ ghost use Rattle.task_steps.specs.Standing.{as_runnable, as_ended};
 ghost use Rattle.task_cell.specs.Starts.{TakesUp};
 ghost use Rattle.task_cell.specs.RunPaths.{RunPath};
 ghost use Rattle.task_cell.specs.RunCalls.{AnswersPending, Closes, EndsReady, EndsUnready};
-ghost use Rattle.task_cell.specs.Belongs.{IsOf, cell_of, limit_in, values_in, HasYielded};
+ghost use Rattle.task_cell.specs.Belongs.{IsOf, cell_of, limit_in, values_in, HasYielded, spawned_in};
 
 use super::{Party, Runnable, Share, TaskWaker};
 use std::alloc::Allocator;
@@ -46,7 +46,7 @@ impl<R: Wait + Drop + Copy, F: Yields, Q: Drop, M: Drop, A: Wake, B: Allocator +
         Q: Schedule<Runnable<R, F, Q, M, A, X, B>>,
         requires cell { IsOf self party × (limit_of party ≡ limit_in self) }
         requires party { Stands as_runnable party }
-        ensures path { (path : List Deed) × RunPath (PolledOnce F.polled (cell_of self) around) ((a : A) × (r : A.Record) × A.woken a r) (HandedOver Q.scheduled (cell_of self) around) result.1 path × Did path as_ended party result.0 }
+        ensures path { (path : List Deed) × RunPath (PolledOnce F.polled (spawned_in self) (cell_of self) around) ((a : A) × (r : A.Record) × A.woken a r) (HandedOver Q.scheduled (cell_of self) around) result.1 path × Did path as_ended party result.0 }
     {
         let (party, started) = self.begin_run(party);
         if !started {

@@ -6,7 +6,7 @@ ghost use Rattle.task_cell.specs.RunCalls.{Discards};
 ghost use Rattle.task_cell.specs.RunPaths.{RunPath};
 ghost use Rattle.task_cell.specs.Gained.{HasFoundLimit, HasGained};
 ghost use Rattle.task_cell.specs.Wakers.{is_owned};
-ghost use Rattle.task_cell.specs.Belongs.{cell_of, limit_in};
+ghost use Rattle.task_cell.specs.Belongs.{cell_of, limit_in, spawned_in};
 ghost use Rattle.task_cell.specs.Calls.{Did};
 ghost use Rattle.task_steps.specs.Standing.{as_ended, as_runnable};
 ghost use Rattle.task_steps.specs.Witness.{Witness};
@@ -113,7 +113,7 @@ impl<
     where
         F: Future<TaskWaker<R, F, Q, M, A, X, B>>,
         Q: Schedule<Runnable<R, F, Q, M, A, X, B>>,
-        ensures path { (path : List Deed) × RunPath (PolledOnce F.polled (cell_of self.inner.share) self.around) ((a : A) × (r : A.Record) × A.woken a r) (HandedOver Q.scheduled (cell_of self.inner.share) self.around) result.0 path × Did path as_ended self.inner.party result.1.party }
+        ensures path { (path : List Deed) × RunPath (PolledOnce F.polled (spawned_in self.inner.share) (cell_of self.inner.share) self.around) ((a : A) × (r : A.Record) × A.woken a r) (HandedOver Q.scheduled (cell_of self.inner.share) self.around) result.0 path × Did path as_ended self.inner.party result.1.party }
     {
         let (inner, around) = self.into_parts();
         let (share, party) = inner.into_party();

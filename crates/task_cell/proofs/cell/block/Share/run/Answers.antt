@@ -45,7 +45,7 @@ end_ready_run-ended-requires-clause-yielded g c = let p = c.poll_future-share.en
 pub returns-in-Ready : goal.returns-in-Ready
 returns-in-Ready g c = let s = started c.args.party c.begin_run-party.result.0 c.begin_run-party.result.1 c.begin_run-party.ensures c.if-not-started.false in let p = c.poll_future-share.ensures in
     record {
-      path = run_ready _ _ _ c.args.party c.begin_run-party.result.0 c.end_ready_run-ended.result s c.poll_future-share.result.2 c.in-Ready.output c.in-Ready.is (p.once.0, p.once.1, p.once.4)
+      path = run_ready _ _ _ c.args.party c.begin_run-party.result.0 c.end_ready_run-ended.result s c.poll_future-share.result.2 c.in-Ready.output c.in-Ready.is (p.once.0, p.once.1, p.once.5, p.once.6, p.once.4)
           (c.end_ready_run-ended.ensures c.begin_run-party.result.0 (Future p.once.1) (noted_ready _ _ _ _ _ _ p.once.3 c.in-Ready.is));
     }
 
@@ -64,7 +64,7 @@ end_pending_run-requires-clause-party g c = let p = c.poll_future-share.ensures 
 pub returns-in-Pending : goal.returns-in-Pending
 returns-in-Pending g c = let s = started c.args.party c.begin_run-party.result.0 c.begin_run-party.result.1 c.begin_run-party.ensures c.if-not-started.false in let p = c.poll_future-share.ensures in
     record {
-      path = run_pending _ _ _ c.args.party c.begin_run-party.result.0 c.end_pending_run.result.0 s c.poll_future-share.result.2 c.in-Pending.is c.end_pending_run.result.1 (p.once.0, p.once.1, p.once.4)
+      path = run_pending _ _ _ c.args.party c.begin_run-party.result.0 c.end_pending_run.result.0 s c.poll_future-share.result.2 c.in-Pending.is c.end_pending_run.result.1 (p.once.0, p.once.1, p.once.5, p.once.6, p.once.4)
           (subst (λ z. EndsUnready ((a : g.row.A.Denot) × (r : g.row.A-Record.Denot) × g.A.Wake.woken a r) (HandedOver g.Q.Schedule.scheduled z c.args.around) c.end_pending_run.result.1 c.begin_run-party.result.0 c.end_pending_run.result.0) (ap cell_of p.share)
           (c.end_pending_run.ensures c.begin_run-party.result.0 (Future p.once.1) (noted_pending _ _ _ _ _ p.once.3 c.in-Pending.is).1));
     }
