@@ -4,17 +4,23 @@ use Rattle.task_steps.specs.declared.kept.Kept.{Kept}
 use Rattle.task_steps.specs.declared.table.Terms.{Terms}
 use Rattle.task_steps.specs.Values.{Values, values_of}
 use Rattle.task_cell.proofs.Vocabulary.{◌≡◌, ℕ, Bool, true, Option, Some, None, List, [], sym, refl, ap, ◌∙◌, subst, ◌==◌, none, Me, step, Allows, State, state_of, number_of, Act, View}
-use Rattle.task_cell.proofs.Vocabulary.{RuleHolds, head_of, Makes, Position, Party, deeds, limit_of, StandsWith, OwesEnd, may_try, looked, missed, Names, having_seen, observed}
-use Rattle.task_cell.proofs.Vocabulary.{attempted, MayTry, HasChanged, HasEnded, HasSeen, TaskPlace}
-use Rattle.std.proofs.Common.{◌&&◌, ◌≢◌, false, eq-eqb, ne_eqb}
+use Rattle.task_cell.proofs.Vocabulary.{RuleHolds, head_of, Makes, Position, Party, deeds, limit_of, StandsWith, OwesEnd, may_try, tries_after, looks_of, Names, having_seen, observed}
+use Rattle.task_cell.proofs.Vocabulary.{attempted, MayTry, HasChanged, HasEnded, HasSeen, HasFound, HasLooked, HasMissed, IsUndecided, TaskPlace}
+use Rattle.std.proofs.Common.{◌&&◌, ◌||◌, ◌≢◌, ◌⊎◌, ◌+◌, ◌≤◌, not, false, eq-eqb, ne_eqb, ⊎_elim, inl, inr, arith, if◌then◌else◌}
+use native.Mathlib.Decide.{ℕ_discrete}
 use Rattle.counted_block.specs.Counts.{More, Less}
 use Rattle.task_steps.specs.Attempt.{Attempt, word_after, acts_on, counts_on, next_of}
+use Rattle.task_steps.specs.Attempts.{Decides, IfAgain}
+use Rattle.task_steps.specs.declared.attempt.TriedOnce.{TriedOnce}
+use Rattle.task_steps.specs.declared.attempt.TriedOnce.TheVariants.{Made, Ended, Again}
 use Rattle.task_steps.proofs.Acts.{written_if}
 use Rattle.task_steps.specs.Shares.{shares_out, counted, MayBring, MayGive}
 use Rattle.task_steps.proofs.Shares.{Brings, Gives, Moves, may_bring, may_give}
 use Rattle.task_steps.proofs.Allowed.{OwesChange}
 use prog.Atomic.{either}
-use Rattle.task_core.proofs.Bits.{state_of_number_of}
+use Rattle.task_core.specs.Word.{bit}
+use Rattle.task_core.proofs.Bits.{state_of_number_of, number_of_state_of}
+use Rattle.task_steps.specs.Rule.{differ}
 use Rattle.task_steps.specs.declared.table.Tries.{Tries}
 use Rattle.task_steps.specs.Knows.{Knows}
 
@@ -22,6 +28,9 @@ use Rattle.task_steps.specs.Knows.{Knows}
 abbrev pub seen_word : Option Tries → State
 seen_word None = state_of 0
 seen_word (Some t) = t.seen
+
+one_word : (v w : State) → number_of v ≡ number_of w → v ≡ w
+one_word v w e = sym (state_of_number_of v) ∙ (ap state_of e ∙ state_of_number_of w)
 
 -- a change that answers what to write applies to the word, and answers its row
 pub answered : {Row : Type 0} (change : Attempt Row) (limit key : ℕ) (w : State) (made : State × Row) → Some made ≡ next_of change limit w → limit ≡ key
@@ -36,6 +45,47 @@ counts_made change n old w row e is found = ap (λ b. b && counts_on change (sta
 -- one that missed counts nothing
 pub counts_missed : {Row : Type 0} (change : Attempt Row) (n old : ℕ) → n ≢ old → ((n == old) && counts_on change (state_of n)) ≡ false
 counts_missed change n old other = ap (λ b. b && counts_on change (state_of n)) (ne_eqb n old other)
+
+-- a word of another number is one look more
+one_look : (v w : State) (t : Option Tries) → Names v t → number_of w ≢ number_of v → looks_of t + 1 ≤ looks_of (tries_after w t)
+one_look v w None names other = omega arith
+one_look v w (Some t) names other = let one : bit (differ t.seen w) ≡ 1 = ap (λ b. bit (not b)) (ne_eqb (number_of t.seen) (number_of w) (λ e. other (sym e ∙ ap number_of names))) in omega arith
+
+-- an exchange that missed has found another word than it names
+pub other_word : (n old : ℕ) (v w : State) → old ≡ number_of v → w ≡ state_of n → n ≢ old → v ≢ w
+other_word n old v w names found miss e = miss (sym (number_of_state_of n) ∙ (ap number_of (sym found ∙ sym e) ∙ sym names))
+
+-- a change that answers nothing to write does not apply: a word that is found again, and does not end the attempt, leaves it undecided
+pub other_or_undecided : {Row : Type 0} (change : Attempt Row) (limit key : ℕ) (v w : State) → None ≡ next_of change limit v → limit ≡ key → change.ends key w ≡ false → (v ≢ w) ⊎ IsUndecided key change w
+other_or_undecided change limit key v w unmade same goes_on = by (ℕ_discrete (number_of v) (number_of w))
+  where
+    unwritten : {X : Type 0} (b : Bool) (x : X) → None ≡ (if b then Some x else None) → b ≡ false
+    unwritten true x e = absurd (cc)
+    unwritten false x e = refl
+
+    neither : (a b : Bool) → a ≡ false → b ≡ false → (a || b) ≡ false
+    neither a b e f = ap (λ x. x || b) e ∙ f
+
+    by : Dec (number_of v ≡ number_of w) → (v ≢ w) ⊎ IsUndecided key change w
+    by (yes e) = let is : v ≡ w = one_word v w e in inr (neither (change.applies key w) (change.ends key w) (ap (change.applies key) (sym is) ∙ (ap (λ l. change.applies l v) (sym same) ∙ unwritten (change.applies limit v) _ unmade)) goes_on)
+    by (no ne) = inl (λ e. ne (ap number_of e))
+
+-- .. and a word that was found again leaves it so
+pub undecided : {Row : Type 0} (change : Attempt Row) (limit : ℕ) (v w : State) → number_of w ≡ number_of v → (v ≢ w) ⊎ IsUndecided limit change w → IsUndecided limit change w
+undecided change limit v w same = ⊎_elim (λ (other : v ≢ w). absurd (other (one_word v w (sym same)))) (λ (u : IsUndecided limit change w). u)
+
+-- no word leaves an attempt undecided that each word decides
+pub decided : {Row P : Type 0} (limit : ℕ) (change : Attempt Row) (w : State) → Decides limit change → P ⊎ IsUndecided limit change w → P
+decided limit change w all = ⊎_elim (λ p. p) (λ (u : IsUndecided limit change w). absurd (let is = all w in cc))
+
+-- a flag is set or clear
+pub set_or_clear : (b : Bool) → (b || not b) ≡ true
+set_or_clear true = refl
+set_or_clear false = refl
+
+pub clear_or_set : (b : Bool) → (not b || b) ≡ true
+clear_or_set true = refl
+clear_or_set false = refl
 
 module _ {F T A : Type 0} where
   pub seeing_first : (w : State) (me : Me (TaskPlace F T A) View) (t : Option Tries) → Names w t → me.0 ≡ having_seen t me.0 → HasSeen w me me
@@ -70,25 +120,39 @@ module _ {F T A : Type 0} where
       (λ (z : ℕ × ℕ × ℕ × Me (TaskPlace F T A) View). Allows (RuleHolds {A = A} values z.0) z.1 z.2 z.3 0 (λ n. n) (observed values change (step z.1 0 0 0 none) z.3))
       (λ i. (sym a i, sym b i, sym c i, sym s.is i)) (may.loads s.tries)
 
-  -- the next round, after a load
-  pub seeing_next : (n : ℕ) (v w : State) (me now after : Me (TaskPlace F T A) View) → HasSeen v me now → w ≡ state_of n → after ≡ (having_seen (looked (state_of n) (head_of now.0.members).tries) now.0, now.1) → HasSeen w me after
+  -- the next round, after a step that changed nothing
+  pub seeing_next : (n : ℕ) (v w : State) (me now after : Me (TaskPlace F T A) View) → HasSeen v me now → w ≡ state_of n → after ≡ (having_seen (tries_after (state_of n) (head_of now.0.members).tries) now.0, now.1) → HasSeen w me after
   seeing_next n v w me now after s e is = record {
-    tries = looked w s.tries;
-    names = refl;
-    is = subst (λ (z : Me (TaskPlace F T A) View × State). after ≡ (having_seen (looked z.1 (head_of z.0.0.members).tries) z.0.0, z.0.1)) (λ i. (s.is i, sym e i)) is;
-  }
-
-  -- .. and after an exchange that missed
-  pub seeing_missed : (n : ℕ) (v w : State) (me now after : Me (TaskPlace F T A) View) → HasSeen v me now → w ≡ state_of n → after ≡ (having_seen (missed (state_of n) (head_of now.0.members).tries) now.0, now.1) → HasSeen w me after
-  seeing_missed n v w me now after s e is = record {
-    tries = missed w s.tries;
-    names = sees w s.tries;
-    is = subst (λ (z : Me (TaskPlace F T A) View × State). after ≡ (having_seen (missed z.1 (head_of z.0.0.members).tries) z.0.0, z.0.1)) (λ i. (s.is i, sym e i)) is;
+    tries = tries_after w s.tries;
+    names = names w s.tries;
+    is = subst (λ (z : Me (TaskPlace F T A) View × State). after ≡ (having_seen (tries_after z.1 (head_of z.0.0.members).tries) z.0.0, z.0.1)) (λ i. (s.is i, sym e i)) is;
   }
     where
-      sees : (w : State) (t : Option Tries) → Names w (missed w t)
-      sees w None = refl
-      sees w (Some t) = refl
+      names : (w : State) (t : Option Tries) → Names w (tries_after w t)
+      names w None = refl
+      names w (Some t) = refl
+
+  -- .. which has found this word
+  pub found_next : (n : ℕ) (w : State) (now after : Me (TaskPlace F T A) View) → w ≡ state_of n → after ≡ (having_seen (tries_after (state_of n) (head_of now.0.members).tries) now.0, now.1) → HasFound w now after
+  found_next n w now after e is = ap (λ (m : Me (TaskPlace F T A) View). (head_of m.0.members).tries) is ∙ ap (λ (v : State). tries_after v (head_of now.0.members).tries) (sym e)
+
+  -- two rounds
+  pub seeing_both : (v w : State) (me now after : Me (TaskPlace F T A) View) → HasSeen v me now → HasSeen w now after → HasSeen w me after
+  seeing_both v w me now after s t = record { tries = t.tries; names = t.names; is = t.is ∙ ap (λ (m : Me (TaskPlace F T A) View). (having_seen t.tries m.0, m.1)) s.is }
+
+  -- a round that has found another word than it was tried on is one look more
+  pub looks_more : (i : ℕ) (v w : State) (me now after : Me (TaskPlace F T A) View) → HasSeen v me now → HasFound w now after → number_of w ≢ number_of v → HasLooked i me now → HasLooked (i + 1) me after
+  looks_more i v w me now after s found other h = let t = (head_of now.0.members).tries in let u = (head_of after.0.members).tries in
+      let seen : t ≡ s.tries = ap (λ (m : Me (TaskPlace F T A) View). (head_of m.0.members).tries) s.is in
+      let one : looks_of t + 1 ≤ looks_of u = subst (λ x. looks_of t + 1 ≤ looks_of x) (sym found) (one_look v w t (subst (Names v) (sym seen) s.names) other) in omega (arith, h, one)
+
+  -- a party that has looked before has missed as often as it was tried, or was left undecided
+  pub misses_from : {Row N K : Type 0} (undecided : State → Type 0) (n : ℕ) (tried : TriedOnce Row N K) (me now after : Me (TaskPlace F T A) View) (w : State) → me.0 ≡ having_seen None me.0 → HasFound w me now
+      → IfAgain tried (λ v. HasLooked n now after ⊎ undecided v) → IfAgain tried (λ v. HasMissed n after ⊎ undecided v)
+  misses_from undecided n (Made row m) me now after w quiet found h = tt
+  misses_from undecided n (Ended v k) me now after w quiet found h = tt
+  misses_from undecided n (Again v k) me now after w quiet found h = let t : (head_of me.0.members).tries ≡ None = ap (λ (v : View). (head_of v.members).tries) quiet in
+      let one : looks_of (head_of now.0.members).tries ≡ 1 = ap looks_of (found ∙ ap (tries_after w) t) in ⊎_elim (λ (l : HasLooked n now after). inl (omega (arith, l, one))) (λ u. inr u) h
 
   -- whether the word that a load finds ends the attempt
   pub ends_at : (ends : ℕ → State → Bool) (limit n : ℕ) (v w : State) (me now : Me (TaskPlace F T A) View) (b : Bool) → ((x : State) → ends me.0.limit x ≡ ends limit x) → HasSeen v me now → w ≡ state_of n → ends limit w ≡ b → ends now.0.limit (state_of n) ≡ b

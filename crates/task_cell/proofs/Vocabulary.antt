@@ -74,7 +74,7 @@ pub use Rattle.task_steps.proofs.TaskOwed.{cancels, closed_claimed, detaches, dr
 pub use Rattle.task_steps.proofs.TaskOwed.{none_left, over}
 pub use Rattle.task_steps.proofs.WakerOwed.{closes_orphan, drops_waker, gains}
 pub use Rattle.task_steps.proofs.WakerSeats.{parts_newest}
-pub use Rattle.task_steps.specs.Attempts.{HasChanged, HasEnded, HasSeen, MayTry, Names, attempted, having_seen, looked, missed, observed}
+pub use Rattle.task_steps.specs.Attempts.{HasChanged, HasEnded, HasFound, HasLooked, HasMissed, HasSeen, IsUndecided, MayTry, Names, attempted, having_seen, looks_of, observed, tries_after}
 pub use Rattle.task_steps.specs.Deeds.{act, after, row}
 pub use Rattle.task_steps.specs.Held.{held}
 pub use Rattle.task_steps.specs.PollScripts.{has_ended, has_output, has_to_wait}

@@ -1,5 +1,5 @@
 -- What an attempt owes: each load and each exchange of it keeps the rule, and each miss has met a write.
-use Rattle.std.proofs.Common.{◌≡◌, ◌≢◌, ℕ, ◌<◌, Bool, not, true, false, Option, Some, None, List, [], ◌∷◌, length, get_or, set, set-set, sym, refl, ap, ◌∙◌, subst, ⊎_elim, arith, eq-eqb, ne_eqb}
+use Rattle.std.proofs.Common.{◌≡◌, ◌≢◌, ℕ, ◌<◌, Bool, not, true, false, Option, Some, None, List, [], ◌∷◌, length, get_or, set, set-set, sym, refl, ap, ◌∙◌, subst, ⊎_elim, arith, eq-eqb}
 use mathlib.Core.Option.{none, some}
 use lib.ListN.{get_elem?}
 use Rattle.atomic_table.specs.Table.{State as Board, Me, keeps, step, homes_after, carried_after}
@@ -10,7 +10,7 @@ use Rattle.task_steps.specs.Rule.{view, member, trying, differ, Entry, Tried, Ex
 use Rattle.task_steps.specs.Steps.{Makes}
 use Rattle.task_steps.specs.Knows.{Knows}
 use Rattle.task_steps.specs.Attempt.{Attempt, word_after, acts_on}
-use Rattle.task_steps.specs.Attempts.{looked, missed, Names, observed, attempted, MayTry}
+use Rattle.task_steps.specs.Attempts.{tries_after, observed, attempted, MayTry}
 use Rattle.task_steps.proofs.Explains.{inside, retries}
 use Rattle.task_steps.proofs.Advance.{Finds, Steps, Result}
 use Rattle.task_steps.proofs.Allowed.{OwesChange, OwesEnd, makes_change, result}
@@ -20,18 +20,10 @@ use Rattle.task_steps.proofs.Known.{knows_now}
 same_word : (w : State) → bit (differ w w) ≡ 0
 same_word w = ap (λ b. bit (not b)) (eq-eqb (number_of w) (number_of w) refl)
 
-other_word : (v w : State) → number_of v ≢ number_of w → bit (differ v w) ≡ 1
-other_word v w ne = ap (λ b. bit (not b)) (ne_eqb (number_of v) (number_of w) ne)
-
--- a party that looks has seen the word that stands
-tried_look : (k : ℕ) (log : List Entry) (w : State) (t : Option Tries) → Tried k log w t → Tried k log w (looked w t)
-tried_look k log w None h = omega (arith, same_word w)
-tried_look k log w (Some t) h = omega (arith, same_word w)
-
--- .. and one that misses has met a write
-tried_miss : (k : ℕ) (log : List Entry) (v w : State) (t : Option Tries) → Names v t → number_of v ≢ number_of w → Tried k log w t → Tried k log w (missed w t)
-tried_miss k log v w None names ne h = omega (arith, same_word w)
-tried_miss k log v w (Some t) names ne h = let stale : bit (differ t.seen w) ≡ 1 = other_word t.seen w (λ e. ne (ap number_of (sym names) ∙ e)) in omega (arith, same_word w)
+-- a party that sees another word than it saw last has met a write
+tried_again : (k : ℕ) (log : List Entry) (w : State) (t : Option Tries) → Tried k log w t → Tried k log w (tries_after w t)
+tried_again k log w None h = omega (arith, same_word w)
+tried_again k log w (Some t) h = omega (arith, same_word w)
 
 same_words : (l : List ℕ) → set l 0 (get_or l 0 0) ≡ l
 same_words [] = refl
@@ -79,11 +71,17 @@ module _ (F T A : Type 0) (values : Values F T) (limit : ℕ) where
       )
 
   -- a party that only sees the word
-  sees : (s : B) (id : ℕ) (l : ℕ) (p : Position) (ds : List Deed) (t new : Option Tries) (us : List Member) (held : List (ℕ × TaskPlace F T A)) (c : Rule s) → get_elem? s.views id ≡ some (view l (trying p ds t ∷ us))
-      → ((k : ℕ) → Tried k c.running.log c.running.machine.word t → Tried k c.running.log c.running.machine.word new)
-      → Result F T A values limit s id (view l (trying p ds t ∷ us), held) (now s) (λ m. m ≡ (view l (trying p ds new ∷ us), held))
-  sees s id l p ds t new us held c at shows = let w : View = view l (trying p ds new ∷ us) in
-      (w, keeps, tt, subst (λ (ws : List ℕ). Rule record { words = ws; homes = s.homes; views = set s.views id w }) (sym (same_words s.words)) (reseen s id l p ds t new us c at shows), refl)
+  sees : (s : B) (id : ℕ) (l : ℕ) (p : Position) (ds : List Deed) (t : Option Tries) (us : List Member) (held : List (ℕ × TaskPlace F T A)) (c : Rule s) → get_elem? s.views id ≡ some (view l (trying p ds t ∷ us))
+      → Result F T A values limit s id (view l (trying p ds t ∷ us), held) (now s) (λ m. m ≡ (view l (trying p ds (tries_after (state_of (now s)) t) ∷ us), held))
+  sees s id l p ds t us held c at = let new = tries_after (state_of (now s)) t in let w : View = view l (trying p ds new ∷ us) in
+      let stands : c.running.machine.word ≡ state_of (now s) = sym (ap state_of c.running.word_is ∙ state_of_number_of c.running.machine.word) in (
+        w,
+        keeps,
+        tt,
+        subst (λ (ws : List ℕ). Rule record { words = ws; homes = s.homes; views = set s.views id w }) (sym (same_words s.words)) (reseen s id l p ds t new us c at
+            (λ k h. subst (λ (x : State). Tried k c.running.log c.running.machine.word (tries_after x t)) stands (tried_again k c.running.log c.running.machine.word t h))),
+        refl,
+      )
 
   -- what an attempt owes: its change where it finds the word that it names, and its end
   pub may_try : {Row : Type 0} (slots id l : ℕ) (p : Position) (ds : List Deed) (us : List Member) (held : List (ℕ × TaskPlace F T A)) (a : Attempt Row) → slots ≡ 2 → OwesChange F T A values limit a p ds us held → ((w : State) → a.ends l w ≡ a.ends limit w)
@@ -93,13 +91,9 @@ module _ (F T A : Type 0) (values : Values F T) (limit : ℕ) where
     exchanges = λ t w applied names s c deep at fits. let v = word_after w (acts_on a w) in lists.exchanged (now s) (number_of w) (number_of v)
         (λ x. Result F T A values limit s id (view l (trying p ds t ∷ us), held) x (attempted values a (step slots 0 (number_of w) (number_of v) none) (view l (trying p ds t ∷ us), held) (now s)))
         (λ hit. let o = acts_having_seen s id l p ds t us held (acts_on a) (λ n. number_of v) c at (deep ∙ two) fits (λ m f e. makes_change F T A values limit a p ds us held changes w applied m f (sym hit ∙ e)) in (o.0, o.1, o.2, o.3, ((λ _. o.4), (λ no. absurd (no hit)), knows t s c at)))
-        (λ miss. let o = sees s id l p ds t (missed (state_of (now s)) t) us held c at (λ k h. subst (λ (x : State). Tried k c.running.log c.running.machine.word (missed x t)) (stands s c)
-        (tried_miss k c.running.log w c.running.machine.word t names (λ e. miss (c.running.word_is ∙ sym e)) h)) in (o.0, o.1, o.2, o.3, ((λ hit. absurd (miss hit)), (λ _. o.4), knows t s c at)));
+        (λ miss. let o = sees s id l p ds t us held c at in (o.0, o.1, o.2, o.3, ((λ hit. absurd (miss hit)), (λ _. o.4), knows t s c at)));
   }
     where
-      stands : (s : B) (c : Rule s) → c.running.machine.word ≡ state_of (now s)
-      stands s c = sym (ap state_of c.running.word_is ∙ state_of_number_of c.running.machine.word)
-
       knows : (t : Option Tries) (s : B) (c : Rule s) → get_elem? s.views id ≡ some (view l (trying p ds t ∷ us)) → Knows ds (state_of (now s))
       knows t s c at = knows_now F T A values limit s id (view l (trying p ds t ∷ us), held) l p ds t us refl c at
 
@@ -110,8 +104,7 @@ module _ (F T A : Type 0) (values : Values F T) (limit : ℕ) where
           → Result F T A values limit s id (view l (trying p ds t ∷ us), held) (now s) (observed values a (step slots 0 0 0 none) (view l (trying p ds t ∷ us), held) (now s))
       observe t s c deep at fits true is = let o = acts_having_seen s id l p ds t us held a.acts_at_end (λ n. n) c at deep fits (λ m f e. over m f (now s) e fits (sym (same m.word) ∙ (ap (a.ends l) (sym (state_of_number_of m.word) ∙ ap state_of (sym e)) ∙ is))) in
           (o.0, o.1, o.2, o.3, ((λ _. o.4), (λ no. differs (a.ends l (state_of (now s))) is no), knows t s c at))
-      observe t s c deep at fits false is = let o = sees s id l p ds t (looked (state_of (now s)) t) us held c at
-          (λ k h. subst (λ (x : State). Tried k c.running.log c.running.machine.word (looked x t)) (stands s c) (tried_look k c.running.log c.running.machine.word t h)) in
+      observe t s c deep at fits false is = let o = sees s id l p ds t us held c at in
           (o.0, o.1, o.2, o.3, ((λ yes. differs (a.ends l (state_of (now s))) yes is), (λ _. o.4), knows t s c at))
 
   -- an attempt that no word ends

@@ -1,5 +1,5 @@
 -- What a party that tries has seen while no other has written: the word that stands.
-use Rattle.std.proofs.Common.{◌≡◌, ℕ, not, eqb, Some, List, sym, ap, subst, arith, ne_eqb}
+use Rattle.std.proofs.Common.{◌≡◌, ℕ, ◌<◌, ◌≤◌, not, eqb, Option, Some, None, List, sym, ap, subst, arith, ne_eqb}
 use native.Mathlib.Decide.{ℕ_discrete}
 use mathlib.Core.Option.{none}
 use Rattle.atomic_table.specs.Table.{Me, step}
@@ -8,7 +8,7 @@ use Rattle.task_steps.specs.Rule.{Entry, Tried, written_since}
 use Rattle.task_steps.specs.Values.{Values}
 use Rattle.task_steps.specs.Steps.{Makes}
 use Rattle.task_steps.specs.Attempt.{Attempt, acts_on}
-use Rattle.task_steps.specs.Attempts.{attempted}
+use Rattle.task_steps.specs.Attempts.{attempted, looks_of}
 
 -- numbers that are not told apart are one
 same_by : (a b : ℕ) → Dec (a ≡ b) → bit (not (eqb a b)) ≡ 0 → a ≡ b
@@ -24,3 +24,8 @@ pub made_while_still : {F T A Row : Type 0} (values : Values F T) (a : Attempt R
     → attempted values a (step slots 0 (number_of t.seen) new none) m (number_of w) m' → (t.misses ≡ 0) × Makes values (acts_on a w) w m m'
 made_while_still values a k log w t slots new m m' tried still exchange = let s = sees_it_still k log w t tried still in
     (s.0, subst (λ v. Makes values (acts_on a v) v m m') (state_of_number_of w) (exchange.0 (sym s.1)))
+
+-- one that has missed so often has met as many writes
+pub met_writes : (n k : ℕ) (log : List Entry) (w : State) (t : Option Tries) → Tried k log w t → n < looks_of t → n ≤ written_since k log
+met_writes n k log w None tried missed = absurd (omega arith)
+met_writes n k log w (Some t) tried missed = omega arith

@@ -1,32 +1,28 @@
 -- What a party does that tries to change the word by compare and exchange, and what it has seen meanwhile.
-use Rattle.std.specs.Prelude.{◌≡◌, ◌≢◌, ℕ, ◌+◌, ◌==◌, true, false, ◌∷◌, Option, Some, None}
+use Rattle.std.specs.Prelude.{◌⊎◌, ◌≡◌, ◌≢◌, ℕ, ◌+◌, ◌≤◌, ◌<◌, ◌==◌, true, false, ◌||◌, ◌∷◌, Option, Some, None, ⊤}
 use mathlib.Core.Option.{none}
 use prog.Atomic.{either}
 use Rattle.atomic_table.specs.Table.{Me, Step, step, Allows}
-use Rattle.task_core.specs.Word.{HasRoom, State, state_of, number_of}
+use Rattle.task_core.specs.Word.{HasRoom, State, bit, state_of, number_of}
 use Rattle.task_steps.specs.declared.attempt.TriedOnce.{TriedOnce}
 use Rattle.task_steps.specs.declared.attempt.TriedOnce.TheVariants.{Made, Ended, Again}
 use Rattle.task_steps.specs.declared.table.Tries.{Tries}
 use Rattle.task_steps.specs.declared.table.View.{View}
 use Rattle.task_steps.specs.Values.{Values}
-use Rattle.task_steps.specs.Rule.{TaskPlace, view, trying, RuleHolds}
+use Rattle.task_steps.specs.Rule.{TaskPlace, view, trying, differ, RuleHolds}
 use Rattle.task_steps.specs.Steps.{head_of, tail_of, Makes}
 use Rattle.task_steps.specs.Knows.{Knows}
 use Rattle.task_steps.specs.Attempt.{Attempt, word_after, acts_on}
 
--- the misses that count since the party's last act
-abbrev pub misses_of : Option Tries → ℕ
-misses_of None = 0
-misses_of (Some t) = t.misses
+-- after a step that found this word, and changed nothing: one miss more, where the party had seen another word
+abbrev pub tries_after : State → Option Tries → Option Tries
+tries_after w None = Some (record { seen = w; misses = 0 })
+tries_after w (Some t) = Some (record { seen = w; misses = t.misses + bit (differ t.seen w) })
 
--- after a load: the word was seen
-abbrev pub looked : State → Option Tries → Option Tries
-looked w t = Some (record { seen = w; misses = misses_of t })
-
--- after an exchange that missed: one miss more, but for the first exchange of a party that has not looked
-abbrev pub missed : State → Option Tries → Option Tries
-missed w None = Some (record { seen = w; misses = 0 })
-missed w (Some t) = Some (record { seen = w; misses = t.misses + 1 })
+-- how many words the party has seen, each another than the one before: the first, and one for each miss
+abbrev pub looks_of : Option Tries → ℕ
+looks_of None = 0
+looks_of (Some t) = t.misses + 1
 
 -- the word that an exchange names is the one that its party saw last
 abbrev pub Names : State → Option Tries → Type 0
@@ -37,17 +33,25 @@ Names w (Some t) = t.seen ≡ w
 abbrev pub having_seen : Option Tries → View → View
 having_seen t v = view v.limit (trying (head_of v.members).at (head_of v.members).deeds t ∷ tail_of v.members)
 
+-- each word lets the attempt make its change, or ends it
+abbrev pub Decides : {Row : Type 0} → ℕ → Attempt Row → Type 0
+Decides limit a = (w : State) → (a.applies limit w || a.ends limit w) ≡ true
+
+-- this word does neither
+abbrev pub IsUndecided : {Row : Type 0} → ℕ → Attempt Row → State → Type 0
+IsUndecided limit a w = (a.applies limit w || a.ends limit w) ≡ false
+
 module _ {F T A : Type 0} where
   -- what a load of an attempt tells: where the word ends the attempt, the acts of that end
   abbrev pub observed : {Row : Type 0} → Values F T → Attempt Row → Step (TaskPlace F T A) → Me (TaskPlace F T A) View → ℕ → Me (TaskPlace F T A) View → Type 0
   observed values a st m r m' = (a.ends m.0.limit (state_of r) ≡ true → Makes values (a.acts_at_end (state_of r)) (state_of r) m m')
-      × (a.ends m.0.limit (state_of r) ≡ false → m' ≡ (having_seen (looked (state_of r) (head_of m.0.members).tries) m.0, m.1))
+      × (a.ends m.0.limit (state_of r) ≡ false → m' ≡ (having_seen (tries_after (state_of r) (head_of m.0.members).tries) m.0, m.1))
       × Knows (head_of m.0.members).deeds (state_of r)
 
   -- .. and its exchange: where it finds the word that it names, the acts of the change
   abbrev pub attempted : {Row : Type 0} → Values F T → Attempt Row → Step (TaskPlace F T A) → Me (TaskPlace F T A) View → ℕ → Me (TaskPlace F T A) View → Type 0
   attempted values a st m r m' = (r ≡ st.first → Makes values (acts_on a (state_of r)) (state_of r) m m')
-      × (r ≢ st.first → m' ≡ (having_seen (missed (state_of r) (head_of m.0.members).tries) m.0, m.1))
+      × (r ≢ st.first → m' ≡ (having_seen (tries_after (state_of r) (head_of m.0.members).tries) m.0, m.1))
       × Knows (head_of m.0.members).deeds (state_of r)
 
   -- the rule allows each load and each exchange of an attempt, whatever the party has seen
@@ -86,8 +90,30 @@ module _ {F T A : Type 0} where
   HasTried values limit a (Ended w k) me me' = HasEnded values limit a w me me'
   HasTried values limit a (Again w k) me me' = HasRoom w × HasSeen w me me'
 
+  -- this word is what the party has seen next
+  abbrev pub HasFound : State → Me (TaskPlace F T A) View → Me (TaskPlace F T A) View → Type 0
+  HasFound w me me' = (head_of me'.0.members).tries ≡ tries_after w (head_of me.0.members).tries
+
+  -- a try on the word v has found w next: another word, or one that leaves it undecided
+  abbrev pub TriesOn : {Row : Type 0} → ℕ → Attempt Row → State → State → Me (TaskPlace F T A) View → Me (TaskPlace F T A) View → Type 0
+  TriesOn limit a v w me me' = HasFound w me me' × ((v ≢ w) ⊎ IsUndecided limit a w)
+
+  -- since then the party has seen at least so many words more, each another than the one before
+  abbrev pub HasLooked : ℕ → Me (TaskPlace F T A) View → Me (TaskPlace F T A) View → Type 0
+  HasLooked n me me' = looks_of (head_of me.0.members).tries + n ≤ looks_of (head_of me'.0.members).tries
+
+  -- it has missed at least so often
+  abbrev pub HasMissed : ℕ → Me (TaskPlace F T A) View → Type 0
+  HasMissed n me = n < looks_of (head_of me.0.members).tries
+
 -- where it was made, or was not, this holds of what is answered
 abbrev pub IfMade : {Row M K : Type 0} → TriedOnce Row M K → (Row → M → Type 0) → (K → Type 0) → Type 0
 IfMade (Made row m) made kept = made row m
 IfMade (Ended w k) made kept = kept k
 IfMade (Again w k) made kept = kept k
+
+-- where it is to be tried again, this holds of the word that was found
+abbrev pub IfAgain : {Row M K : Type 0} → TriedOnce Row M K → (State → Type 0) → Type 0
+IfAgain (Made row m) found = ⊤
+IfAgain (Ended w k) found = ⊤
+IfAgain (Again w k) found = found w

@@ -49,7 +49,7 @@ pub struct Member {
 pub struct Tries {
     /// The word that it saw last.
     pub seen: Word,
-    /// How often an exchange of it has missed.
+    /// How often it has found another word than it saw last.
     pub misses: u64,
 }
 

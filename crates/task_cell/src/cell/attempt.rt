@@ -1,10 +1,10 @@
 //! Every change of the word that is made by compare and exchange: one try, and the loop after a try that missed. A change may bring a share, or give the share up that it is tried with.
 //!
 //! One try cannot wait, and the loop may. After a call that may wait the compiler tests whether it has to stop, at each function in between. So a call that is to be fast begins with one try, and the loop is a function of its own, marked as rare.
-ghost use Rattle.std.specs.Prelude.{◌≡◌, ◌<◌, not, IfOk, IfErr, Option, None, false, ⊤};
+ghost use Rattle.std.specs.Prelude.{◌⊎◌, ◌≡◌, ◌<◌, not, IfOk, IfErr, Option, None, false, ⊤};
 ghost use Rattle.task_core.specs.Word.{HasRoom, State};
 ghost use Rattle.task_steps.specs.declared.table.Tries.{Tries};
-ghost use Rattle.task_steps.specs.Attempts.{Names, having_seen, MayTry, HasChanged, HasEnded, HasSeen, HasTried, IfMade};
+ghost use Rattle.task_steps.specs.Attempts.{Names, having_seen, MayTry, HasChanged, HasEnded, HasSeen, HasTried, HasFound, TriesOn, HasLooked, HasMissed, IsUndecided, IfMade, IfAgain};
 ghost use Rattle.task_steps.specs.Shares.{MayBring, MayGive};
 ghost use Rattle.task_cell.specs.Belongs.{IsOf, IsSame, Leaves, limit_in, values_in};
 
@@ -26,6 +26,7 @@ impl<R: Drop, F: Yields, Q: Drop, M: Drop, A: Drop, B: Allocator + Copy> Share<R
         requires allowed { MayTry (values_in self.now) (limit_in self.now) 2 party.old.seat.id party.old.seat.me P.attempt }
         ensures seat { (party.new.seat.block ≡ party.old.seat.block) × (party.new.seat.id ≡ party.old.seat.id) }
         ensures again { IfOk result (λ w. HasRoom w × HasSeen w party.old.seat.me party.new.seat.me) }
+        ensures found { IfOk result (λ w. (P.attempt.ends (limit_in self.now) w ≡ false) × HasFound w party.old.seat.me party.new.seat.me) }
         ensures ended { IfErr result (λ w. HasEnded (values_in self.now) (limit_in self.now) P.attempt w party.old.seat.me party.new.seat.me) }
     {
         let word = Word::from_bits(self.block.load::<Observing<P>>(&mut party.seat));
@@ -51,6 +52,7 @@ impl<R: Drop, F: Yields, Q: Drop, M: Drop, A: Drop, B: Allocator + Copy> Share<R
         requires shares { MayBring (values_in self.now) (limit_in self.now) party.old.seat.id party.old.seat.me P.attempt }
         ensures seat { (party.new.seat.block ≡ party.old.seat.block) × (party.new.seat.id ≡ party.old.seat.id) }
         ensures tried { HasTried (values_in self.now) (limit_in self.now) P.attempt result party.old.seat.me party.new.seat.me }
+        ensures again { IfAgain result (λ w. TriesOn (limit_in self.now) P.attempt word w party.old.seat.me party.new.seat.me) }
         ensures share { IfMade result (λ row m. Leaves self.now m (P.attempt.counts row)) (λ k. ⊤) }
     {
         let Some(made) = P::next(word, self.cell().limit) else {
@@ -86,6 +88,7 @@ impl<R: Drop, F: Yields, Q: Drop, M: Drop, A: Drop, B: Allocator + Copy> Share<R
         requires shares { MayGive (values_in self) (limit_in self) party.old.seat.id party.old.seat.me P.attempt }
         ensures seat { (party.new.seat.block ≡ party.old.seat.block) × (party.new.seat.id ≡ party.old.seat.id) }
         ensures tried { HasTried (values_in self) (limit_in self) P.attempt result party.old.seat.me party.new.seat.me }
+        ensures again { IfAgain result (λ w. TriesOn (limit_in self) P.attempt word w party.old.seat.me party.new.seat.me) }
         ensures share { IfMade result (λ row m. Leaves self m (not (P.attempt.counts row))) (λ k. IsSame self k) }
     {
         let Some(made) = P::next(word, self.cell().limit) else {
@@ -105,12 +108,13 @@ impl<R: Drop, F: Yields, Q: Drop, M: Drop, A: Drop, B: Allocator + Copy> Share<R
         TriedOnce::Again(Word::from_bits(found), maybe.share())
     }
 
-    // Tries a change from this word on, at most 2^64 - 1 times: what it found, and the share that it brought, if it did, or the word on which each try has missed. Each exchange that misses has met a write of another party. It cannot wait.
+    // Tries a change from this word on, at most so often: what it found, and the share that it brought, if it did, or the word on which it is to be tried again. Then each try has found another word than it was tried on, unless the last word leaves the change undecided. So after a look, one try is enough where no other party writes. It cannot wait.
     #[inline(always)]
     pub(crate) fn attempt_some<P: Change>(
         &self,
         party: &mut Party<F, Kept<F>, A>,
         mut word: Word,
+        tries: u64,
     ) -> TriedOnce<P::Row, MaybeShare<R, F, Q, M, A, B>, ()>
         requires cell { IsOf self.now party.old }
         requires limit { (w : State) → P.attempt.ends party.old.seat.me.0.limit w ≡ P.attempt.ends (limit_in self.now) w }
@@ -120,13 +124,19 @@ impl<R: Drop, F: Yields, Q: Drop, M: Drop, A: Drop, B: Allocator + Copy> Share<R
         requires shares { MayBring (values_in self.now) (limit_in self.now) party.old.seat.id party.old.seat.me P.attempt }
         ensures seat { (party.new.seat.block ≡ party.old.seat.block) × (party.new.seat.id ≡ party.old.seat.id) }
         ensures tried { HasTried (values_in self.now) (limit_in self.now) P.attempt result party.old.seat.me party.new.seat.me }
+        ensures looked { IfAgain result (λ w. HasLooked tries party.old.seat.me party.new.seat.me ⊎ IsUndecided (limit_in self.now) P.attempt w) }
         ensures share { IfMade result (λ row m. Leaves self.now m (P.attempt.counts row)) (λ k. ⊤) }
     {
-        for _ in 0..u64::MAX {
+        for round in 0..tries {
             match self.try_once::<P>(party, word) {
                 TriedOnce::Made(row, maybe) => return TriedOnce::Made(row, maybe),
                 TriedOnce::Ended(found, ()) => return TriedOnce::Ended(found, ()),
-                TriedOnce::Again(found, ()) => word = found,
+                TriedOnce::Again(found, ()) => {
+                    if found.bits() == word.bits() {
+                        return TriedOnce::Again(found, ());
+                    }
+                    word = found;
+                }
             }
         }
         TriedOnce::Again(word, ())
@@ -137,6 +147,7 @@ impl<R: Drop, F: Yields, Q: Drop, M: Drop, A: Drop, B: Allocator + Copy> Share<R
     pub(crate) fn change_some<P: Change>(
         &self,
         party: &mut Party<F, Kept<F>, A>,
+        tries: u64,
     ) -> TriedOnce<P::Row, MaybeShare<R, F, Q, M, A, B>, ()>
         requires cell { IsOf self.now party.old }
         requires limit { (w : State) → P.attempt.ends party.old.seat.me.0.limit w ≡ P.attempt.ends (limit_in self.now) w }
@@ -145,20 +156,22 @@ impl<R: Drop, F: Yields, Q: Drop, M: Drop, A: Drop, B: Allocator + Copy> Share<R
         requires shares { MayBring (values_in self.now) (limit_in self.now) party.old.seat.id party.old.seat.me P.attempt }
         ensures cell { party.new.seat.block ≡ party.old.seat.block }
         ensures tried { HasTried (values_in self.now) (limit_in self.now) P.attempt result party.old.seat.me party.new.seat.me }
+        ensures missed { IfAgain result (λ w. HasMissed tries party.new.seat.me ⊎ IsUndecided (limit_in self.now) P.attempt w) }
         ensures share { IfMade result (λ row m. Leaves self.now m (P.attempt.counts row)) (λ k. ⊤) }
     {
         match self.observe::<P>(party) {
-            Ok(word) => self.attempt_some::<P>(party, word),
+            Ok(word) => self.attempt_some::<P>(party, word, tries),
             Err(word) => TriedOnce::Ended(word, ()),
         }
     }
 
-    // Tries a change that may give this share up, from this word on, at most 2^64 - 1 times: what it found, and the share, if it is left. A word that ended the attempt, or on which each try has missed, comes with the share. It cannot wait.
+    // Tries a change that may give this share up, from this word on, as `attempt_some` does: what it found, and the share, if it is left. A word that ended the attempt, or on which it is to be tried again, comes with the share.
     #[inline(always)]
     pub(crate) fn give_some<P: Change>(
         self,
         party: &mut Party<F, Kept<F>, A>,
         mut word: Word,
+        tries: u64,
     ) -> TriedOnce<P::Row, MaybeShare<R, F, Q, M, A, B>, Self>
         requires cell { IsOf self party.old }
         requires limit { (w : State) → P.attempt.ends party.old.seat.me.0.limit w ≡ P.attempt.ends (limit_in self) w }
@@ -168,14 +181,18 @@ impl<R: Drop, F: Yields, Q: Drop, M: Drop, A: Drop, B: Allocator + Copy> Share<R
         requires shares { MayGive (values_in self) (limit_in self) party.old.seat.id party.old.seat.me P.attempt }
         ensures seat { (party.new.seat.block ≡ party.old.seat.block) × (party.new.seat.id ≡ party.old.seat.id) }
         ensures tried { HasTried (values_in self) (limit_in self) P.attempt result party.old.seat.me party.new.seat.me }
+        ensures looked { IfAgain result (λ w. HasLooked tries party.old.seat.me party.new.seat.me ⊎ IsUndecided (limit_in self) P.attempt w) }
         ensures share { IfMade result (λ row m. Leaves self m (not (P.attempt.counts row))) (λ k. IsSame self k) }
     {
         let mut share = self;
-        for _ in 0..u64::MAX {
+        for round in 0..tries {
             match share.try_giving::<P>(party, word) {
                 TriedOnce::Made(row, maybe) => return TriedOnce::Made(row, maybe),
                 TriedOnce::Ended(found, kept) => return TriedOnce::Ended(found, kept),
                 TriedOnce::Again(found, kept) => {
+                    if found.bits() == word.bits() {
+                        return TriedOnce::Again(found, kept);
+                    }
                     word = found;
                     share = kept;
                 }
@@ -189,6 +206,7 @@ impl<R: Drop, F: Yields, Q: Drop, M: Drop, A: Drop, B: Allocator + Copy> Share<R
     pub(crate) fn give_change_some<P: Change>(
         self,
         party: &mut Party<F, Kept<F>, A>,
+        tries: u64,
     ) -> TriedOnce<P::Row, MaybeShare<R, F, Q, M, A, B>, Self>
         requires cell { IsOf self party.old }
         requires limit { (w : State) → P.attempt.ends party.old.seat.me.0.limit w ≡ P.attempt.ends (limit_in self) w }
@@ -197,10 +215,11 @@ impl<R: Drop, F: Yields, Q: Drop, M: Drop, A: Drop, B: Allocator + Copy> Share<R
         requires shares { MayGive (values_in self) (limit_in self) party.old.seat.id party.old.seat.me P.attempt }
         ensures cell { party.new.seat.block ≡ party.old.seat.block }
         ensures tried { HasTried (values_in self) (limit_in self) P.attempt result party.old.seat.me party.new.seat.me }
+        ensures missed { IfAgain result (λ w. HasMissed tries party.new.seat.me ⊎ IsUndecided (limit_in self) P.attempt w) }
         ensures share { IfMade result (λ row m. Leaves self m (not (P.attempt.counts row))) (λ k. IsSame self k) }
     {
         match self.observe::<P>(party) {
-            Ok(word) => self.give_some::<P>(party, word),
+            Ok(word) => self.give_some::<P>(party, word, tries),
             Err(word) => TriedOnce::Ended(word, self),
         }
     }
@@ -234,7 +253,7 @@ impl<R: Wait + Drop + Copy, F: Yields, Q: Drop, M: Drop, A: Drop, B: Allocator +
         ensures ended { IfErr result (λ w. HasEnded (values_in self.now) (limit_in self.now) P.attempt w party.old.seat.me party.new.seat.me) }
     {
         for _ in self.cell().rt.forever() {
-            match self.attempt_some::<P>(party, word) {
+            match self.attempt_some::<P>(party, word, u64::MAX) {
                 TriedOnce::Made(row, maybe) => return Ok((row, maybe)),
                 TriedOnce::Ended(found, ()) => return Err(found),
                 TriedOnce::Again(found, ()) => word = found,
@@ -335,7 +354,7 @@ impl<R: Wait + Drop + Copy, F: Yields, Q: Drop, M: Drop, A: Drop, B: Allocator +
         let rt = self.cell().rt;
         let mut share = self;
         for _ in rt.forever() {
-            match share.give_some::<P>(party, word) {
+            match share.give_some::<P>(party, word, u64::MAX) {
                 TriedOnce::Made(row, maybe) => return Ok((row, maybe)),
                 TriedOnce::Ended(found, kept) => return Err((found, kept)),
                 TriedOnce::Again(found, kept) => {

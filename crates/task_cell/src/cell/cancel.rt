@@ -1,5 +1,5 @@
 //! Closing a task by its Task.
-ghost use Rattle.std.specs.Prelude.{◌≡◌, ℕ, ◌<◌, List, [], ◌∷◌, ◌++◌, IfSome, false};
+ghost use Rattle.std.specs.Prelude.{◌≡◌, ℕ, ◌<◌, ◌-◌, ◌^◌, List, [], ◌∷◌, ◌++◌, IfSome, IfNone, false};
 ghost use Rattle.task_laws.specs.Table.{notifies};
 ghost use Rattle.task_laws.specs.declared.positions.Answer.{Answer};
 ghost use Rattle.task_laws.specs.declared.positions.NotifyingCall.TheVariants.{OfCancel};
@@ -10,6 +10,7 @@ ghost use Rattle.task_steps.specs.declared.table.Deed.{Deed};
 ghost use Rattle.task_cell.specs.TaskPaths.{Cancels, Notice, CancelPath};
 ghost use Rattle.task_cell.specs.Handed.{HandedOver};
 ghost use Rattle.task_cell.specs.Calls.{Stands, Did, first, position, limit_of};
+ghost use Rattle.task_steps.specs.Attempts.{HasMissed};
 ghost use Rattle.task_steps.specs.Deeds.{act};
 ghost use Rattle.task_steps.specs.TaskScripts.{brings_share};
 ghost use Rattle.task_steps.specs.Standing.{as_task, rest_of};
@@ -93,8 +94,9 @@ impl<R: Drop, F: Yields, Q: Drop, M: Drop, A: Drop, B: Allocator + Copy> Share<R
         requires party { (n : ℕ) × Stands (as_task n) party.old }
         ensures path { (n : ℕ) → Stands (as_task n) party.old → IfSome result (λ found. Cancels n party.old party.new (first found)) }
         ensures share { IfSome result (λ found. IfSome found (λ closed. Leaves self.now closed.1 (brings_share closed.0))) }
+        ensures missed { IfNone result (HasMissed (2 ^ 64 - 1) party.new.seat.me) }
     {
-        match self.change_some::<Cancelling>(party) {
+        match self.change_some::<Cancelling>(party, u64::MAX) {
             TriedOnce::Made(found, maybe) => Some(Some((found, maybe))),
             TriedOnce::Ended(_, ()) => Some(None),
             TriedOnce::Again(_, ()) => None,

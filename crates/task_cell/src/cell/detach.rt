@@ -1,5 +1,5 @@
 //! Giving the Task up.
-ghost use Rattle.std.specs.Prelude.{◌≡◌, ℕ, List, [], ◌∷◌, true, false, not, IfOk, IfErr};
+ghost use Rattle.std.specs.Prelude.{◌≡◌, ℕ, ◌-◌, ◌^◌, List, [], ◌∷◌, true, false, not, IfOk, IfErr};
 ghost use Rattle.task_laws.specs.declared.positions.Position.TheVariants.{OutputCloser, Detacher};
 ghost use Rattle.task_core.specs.declared.acts.Act.TheVariants.{DropOutput};
 ghost use Rattle.task_steps.specs.declared.table.Deed.{Deed};
@@ -9,6 +9,7 @@ ghost use Rattle.task_steps.specs.Steps.{saw_closed, work_first};
 ghost use Rattle.task_cell.specs.TaskPaths.{Detaches, GivesTaskUp, DetachPath, UnclaimedPath};
 ghost use Rattle.task_cell.specs.Handed.{HandedOver};
 ghost use Rattle.task_cell.specs.Calls.{Stands, StandsWith, Did, deeds, limit_of};
+ghost use Rattle.task_steps.specs.Attempts.{HasMissed};
 ghost use Rattle.task_steps.specs.Deeds.{act};
 ghost use Rattle.task_steps.specs.TaskScripts.{ends_task};
 ghost use Rattle.task_steps.specs.Standing.{as_task, as_ended};
@@ -61,8 +62,9 @@ impl<R: Drop, F: Yields, Q: Drop, M: Drop, A: Drop, B: Allocator + Copy> Share<R
         ensures path { IfOk result (λ found. Detaches (values_in self) party.old party.new found.0) }
         ensures share { IfOk result (λ found. Leaves self found.1 (not (ends_task found.0))) }
         ensures kept { IfErr result (λ kept. IsSame self kept) }
+        ensures missed { IfErr result (λ _. HasMissed (2 ^ 64 - 1) party.new.seat.me) }
     {
-        match self.give_change_some::<Detaching>(party) {
+        match self.give_change_some::<Detaching>(party, u64::MAX) {
             TriedOnce::Made(found, maybe) => Ok((found, maybe)),
             TriedOnce::Ended(_, kept) => Err(kept),
             TriedOnce::Again(_, kept) => Err(kept),

@@ -1,5 +1,5 @@
 //! The ends of a run whose poll has answered.
-ghost use Rattle.std.specs.Prelude.{◌≡◌, ◌<◌, ℕ, ◌∷◌, [], List, Bool, true, not, IfOk, IfErr, IfSome};
+ghost use Rattle.std.specs.Prelude.{◌≡◌, ◌<◌, ◌-◌, ◌^◌, ℕ, ◌∷◌, [], List, Bool, true, not, IfOk, IfErr, IfSome, IfNone};
 ghost use Rattle.task_core.specs.Word.{HasRoom};
 ghost use Rattle.task_laws.specs.declared.positions.Position.TheVariants.{Polling, Pending, PendingFutureDropped, OutputInHand, ReadyFutureDropped};
 ghost use Rattle.task_laws.specs.declared.positions.NotifyingCall.TheVariants.{OfRun};
@@ -8,6 +8,7 @@ ghost use Rattle.task_laws.specs.Table.{notifies};
 ghost use Rattle.task_steps.specs.declared.table.Slot.{Slot};
 ghost use Rattle.task_steps.specs.declared.table.Slot.TheVariants.{Empty, Output};
 ghost use Rattle.task_cell.specs.Calls.{StandsWith, Did, DidWith, limit_of};
+ghost use Rattle.task_steps.specs.Attempts.{HasMissed};
 ghost use Rattle.task_steps.specs.Deeds.{row, act};
 ghost use Rattle.task_steps.specs.Rule.{IsFuture, TaskPlace};
 ghost use Rattle.task_steps.specs.RunScripts.{ends_run};
@@ -87,10 +88,11 @@ impl<R: Drop, F: Yields, Q: Drop, M: Drop, A: Drop, B: Allocator + Copy> Share<R
         requires cell { IsOf self.now party.old }
         requires party { StandsWith ReadyFutureDropped (work_first Empty []) party.old }
         requires yielded { HasYielded self.now output.value.output }
-        ensures { IfSome result (λ found. Completes party.old party.new found) }
+        ensures path { IfSome result (λ found. Completes party.old party.new found) }
+        ensures missed { IfNone result (HasMissed (2 ^ 64 - 1) party.new.seat.me) }
     {
         self.lay_output(party, output);
-        match self.change_some::<Completing>(party) {
+        match self.change_some::<Completing>(party, u64::MAX) {
             TriedOnce::Made(found, maybe) => {
                 maybe.none();
                 Some(found)
@@ -112,8 +114,9 @@ impl<R: Drop, F: Yields, Q: Drop, M: Drop, A: Drop, B: Allocator + Copy> Share<R
         ensures path { (y : Slot F _) → StandsWith Pending (work_first y []) party.old → IfOk result (λ tried. EndsPending (work_first y []) party.old party.new (end_of tried)) }
         ensures share { IfOk result (λ tried. IfOk tried (λ r. Leaves self r.1 (not (ends_run r.0)))) }
         ensures kept { IfOk result (λ tried. IfErr tried (λ share. IsSame self share)) }
+        ensures missed { IfErr result (λ _. HasMissed (2 ^ 64 - 2) party.new.seat.me) }
     {
-        match self.give_some::<EndingPending>(party, word) {
+        match self.give_some::<EndingPending>(party, word, u64::MAX) {
             TriedOnce::Made(end, maybe) => Ok(Ok((end, maybe))),
             TriedOnce::Ended(_, share) => Ok(Err(share)),
             TriedOnce::Again(_, share) => Err(share),

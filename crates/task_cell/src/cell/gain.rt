@@ -69,7 +69,7 @@ impl<R: Wait + Drop + Copy, F: Yields, Q: Drop, M: Drop, A: Drop, B: Allocator +
 }
 
 impl<R: Drop, F: Yields, Q: Drop, M: Drop, A: Drop, B: Allocator + Copy> Share<R, F, Q, M, A, B> {
-    /// A gain by whoever has a handle by reference, by at most 2^64 - 1 tries: a share for the new waker, and its party; or, where the count that is found is at the limit, the party of the call, which tells so. The outer error is that each try has missed.
+    /// A gain by whoever has a handle by reference, by at most 2^64 - 1 tries: a share for the new waker, and its party; or, where the count that is found is at the limit, the party of the call, which tells so. The outer error is that each try has missed, or that the word shows no handle.
     pub fn gain_some(
         &self,
     ) -> Result<Result<(Self, Party<F, Kept<F>, A>), Party<F, Kept<F>, A>>, ()>
@@ -78,7 +78,7 @@ impl<R: Drop, F: Yields, Q: Drop, M: Drop, A: Drop, B: Allocator + Copy> Share<R
         ensures at_limit { IfOk result (λ gained. IfErr gained (λ party. (path : List Deed) × GainPath (limit_in self.now) false path × HasMade self.now path party)) }
     {
         let (word, mut party) = self.borrow();
-        match self.attempt_some::<Gaining>(&mut party, word) {
+        match self.attempt_some::<Gaining>(&mut party, word, u64::MAX) {
             TriedOnce::Made((), maybe) => {
                 let gained = self.split::<Parting>(&mut party);
                 let Party { seat: _ } = party;

@@ -1,5 +1,5 @@
 //! Polls of the Task.
-ghost use Rattle.std.specs.Prelude.{◌≡◌, ℕ, ◌∷◌, ◌++◌, [], List, None, Err, true, IfSome};
+ghost use Rattle.std.specs.Prelude.{◌≡◌, ℕ, ◌-◌, ◌^◌, ◌∷◌, ◌++◌, [], List, None, Err, true, IfSome, IfNone};
 ghost use Rattle.task_core.specs.Word.{State};
 ghost use Rattle.task_laws.specs.declared.positions.PollAnswer.{PollAnswer};
 ghost use Rattle.task_laws.specs.declared.positions.Position.TheVariants.{Answering, Notifier, Looking as LookingAt};
@@ -11,6 +11,7 @@ ghost use Rattle.task_steps.specs.Standing.{poll_number, as_task};
 ghost use Rattle.task_steps.specs.PollScripts.{has_ended as has_ended_word};
 ghost use Rattle.task_steps.specs.Steps.{saw_ended};
 ghost use Rattle.task_cell.specs.Calls.{Stands, Did, position, deeds};
+ghost use Rattle.task_steps.specs.Attempts.{HasMissed};
 ghost use Rattle.task_steps.specs.Deeds.{act};
 ghost use Rattle.task_cell.specs.Belongs.{IsOf, values_in, HasYielded};
 
@@ -39,6 +40,7 @@ impl<R: Drop, F: Yields, Q: Drop, M: Drop, A: Drop, B: Allocator + Copy> Share<R
         requires party { (n : ℕ) × Stands (as_task n) party.old }
         ensures path { IfSome result (λ found. Looks (values_in self.now) party.old party.new found) }
         ensures ended { saw_ended (deeds party.old) ≡ true → IfSome result (λ found. (w : State) × (found ≡ Err w) × (has_ended_word w ≡ true)) }
+        ensures missed { IfNone result (HasMissed (2 ^ 64 - 1) party.new.seat.me) }
     {
         self.alter_some::<Looking>(party)
     }
@@ -47,7 +49,8 @@ impl<R: Drop, F: Yields, Q: Drop, M: Drop, A: Drop, B: Allocator + Copy> Share<R
     pub fn look_again_some(&self, party: &mut Party<F, Kept<F>, A>) -> Option<Result<Word, Word>>
         requires cell { IsOf self.now party.old }
         requires party { (i : ℕ) × Stands (LookingAt i) party.old }
-        ensures { IfSome result (λ found. LooksAgain (values_in self.now) party.old party.new found) }
+        ensures path { IfSome result (λ found. LooksAgain (values_in self.now) party.old party.new found) }
+        ensures missed { IfNone result (HasMissed (2 ^ 64 - 1) party.new.seat.me) }
     {
         self.alter_some::<LookingAgain>(party)
     }

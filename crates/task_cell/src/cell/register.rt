@@ -1,5 +1,5 @@
 //! The registering of a poll's awaiter, beside parties that notify.
-ghost use Rattle.std.specs.Prelude.{◌≡◌, ℕ, ◌∷◌, [], List, Bool, true, Option, None, IfSome, Some, Ok};
+ghost use Rattle.std.specs.Prelude.{◌≡◌, ℕ, ◌-◌, ◌^◌, ◌∷◌, [], List, Bool, true, Option, None, IfSome, IfNone, Some, Ok};
 ghost use Rattle.task_core.specs.Word.{State};
 ghost use Rattle.task_laws.specs.declared.positions.Position.TheVariants.{Registrar, UnusedClone, OldAwaiterInHand, Registered, TookBack, CloneInHand, Looking};
 ghost use Rattle.task_core.specs.declared.acts.Act.TheVariants.{EndRegisterNotified, RefuseClone, EndCall, DropAwaiter, WakeAwaiter};
@@ -10,6 +10,7 @@ ghost use Rattle.task_cell.specs.PollPaths.{RegisterPath, Registers, BeginsRegis
 ghost use Rattle.task_cell.specs.Stores.{PutsClone};
 ghost use Rattle.task_steps.specs.Standing.{poll_number, as_task};
 ghost use Rattle.task_cell.specs.Calls.{Stands, StandsWith, Did, DidWith, position, places_of};
+ghost use Rattle.task_steps.specs.Attempts.{HasMissed};
 ghost use Rattle.task_steps.specs.Deeds.{row, act};
 ghost use Rattle.task_cell.specs.Belongs.{IsOf};
 ghost use Rattle.task_steps.specs.Steps.{awaiter_first};
@@ -100,7 +101,8 @@ impl<R: Drop, F: Yields, Q: Drop, M: Drop, A: Drop, B: Allocator + Copy> Share<R
     pub fn begin_register_some(&self, party: &mut Party<F, Kept<F>, A>) -> Option<bool>
         requires cell { IsOf self.now party.old }
         requires party { (i : ℕ) × Stands (Registrar i) party.old }
-        ensures { IfSome result (λ began. BeginsRegister party.old party.new began) }
+        ensures path { IfSome result (λ began. BeginsRegister party.old party.new began) }
+        ensures missed { IfNone result (HasMissed (2 ^ 64 - 1) party.new.seat.me) }
     {
         match self.alter_some::<BeginningRegister>(party)? {
             Ok(()) => Some(true),
@@ -112,7 +114,8 @@ impl<R: Drop, F: Yields, Q: Drop, M: Drop, A: Drop, B: Allocator + Copy> Share<R
     pub fn end_register_some(&self, party: &mut Party<F, Kept<F>, A>) -> Option<bool>
         requires cell { IsOf self.now party.old }
         requires party { (i : ℕ) × (clone : A) × StandsWith (Registered i) (awaiter_first (Some clone) []) party.old }
-        ensures { IfSome result (λ ended. EndsRegister party.old party.new ended) }
+        ensures path { IfSome result (λ ended. EndsRegister party.old party.new ended) }
+        ensures missed { IfNone result (HasMissed (2 ^ 64 - 1) party.new.seat.me) }
     {
         match self.alter_some::<EndingRegister>(party)? {
             Ok(()) => Some(true),

@@ -1,6 +1,7 @@
 //! The start of a run.
-ghost use Rattle.std.specs.Prelude.{◌≡◌, ℕ, ◌∷◌, [], IfSome};
+ghost use Rattle.std.specs.Prelude.{◌≡◌, ℕ, ◌-◌, ◌^◌, ◌∷◌, [], IfSome, IfNone};
 ghost use Rattle.task_cell.specs.Calls.{Stands};
+ghost use Rattle.task_steps.specs.Attempts.{HasMissed};
 ghost use Rattle.task_steps.specs.Standing.{as_runnable};
 ghost use Rattle.task_cell.specs.Starts.{TakesUp};
 ghost use Rattle.task_cell.specs.Belongs.{IsOf, values_in};
@@ -39,9 +40,10 @@ impl<R: Drop, F: Yields, Q: Drop, M: Drop, A: Drop, B: Allocator + Copy> Share<R
     pub fn take_up_some(&self, party: &mut Party<F, Kept<F>, A>) -> Option<bool>
         requires cell { IsOf self.now party.old }
         requires party { Stands as_runnable party.old }
-        ensures { IfSome result (λ started. TakesUp (values_in self.now) party.old party.new started) }
+        ensures path { IfSome result (λ started. TakesUp (values_in self.now) party.old party.new started) }
+        ensures missed { IfNone result (HasMissed (2 ^ 64 - 1) party.new.seat.me) }
     {
-        match self.change_some::<StartingRun>(party) {
+        match self.change_some::<StartingRun>(party, u64::MAX) {
             TriedOnce::Made((), maybe) => {
                 maybe.none();
                 Some(true)

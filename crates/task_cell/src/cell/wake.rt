@@ -80,7 +80,7 @@ impl<R: Drop, F: Yields, Q: Drop, M: Drop, A: Drop, B: Allocator + Copy> Share<R
         }
     }
 
-    /// A wake of the task by a handle that is lent for it, by at most 2^64 - 1 tries: the Runnable that is to be handed to the schedule function; or, where there is none, the party of the call, which tells why. The outer error is that each try has missed.
+    /// A wake of the task by a handle that is lent for it, by at most 2^64 - 1 tries: the Runnable that is to be handed to the schedule function; or, where there is none, the party of the call, which tells why. The outer error is that each try has missed, or that the word shows no handle.
     pub fn wake_some(
         &self,
     ) -> Result<Result<(Self, Party<F, Kept<F>, A>), Party<F, Kept<F>, A>>, ()>
@@ -89,7 +89,7 @@ impl<R: Drop, F: Yields, Q: Drop, M: Drop, A: Drop, B: Allocator + Copy> Share<R
         ensures nothing { IfOk result (λ woken. IfErr woken (λ party. (path : List Deed) × TaskWakePath false path × HasMade self.now path party)) }
     {
         let (word, mut party) = self.borrow();
-        match self.attempt_some::<WakingTask>(&mut party, word) {
+        match self.attempt_some::<WakingTask>(&mut party, word, u64::MAX) {
             TriedOnce::Made(found, maybe) => {
                 let woken = self.deliverer_of(&mut party, found, maybe);
                 match woken {

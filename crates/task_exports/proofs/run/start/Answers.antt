@@ -7,11 +7,11 @@ use Rattle.task_cell.specs.Belongs.{values_in}
 use Rattle.task_exports.proofs.run.start.Goals as goal
 
 pub returns-in-Some-true : goal.returns-in-Some-true
-returns-in-Some-true c = let t = subst (λ b. TakesUp (values_in c.share-share.result) c.args.hand.party c.take_up_some-started.new.party b) c.in-Some-true.field-0-test (subst (λ o. IfSome o (λ b. TakesUp (values_in c.share-share.result) c.args.hand.party c.take_up_some-started.new.party b)) c.in-Some-true.is c.take_up_some-started.ensures) in
+returns-in-Some-true c = let t = subst (λ b. TakesUp (values_in c.share-share.result) c.args.hand.party c.take_up_some-started.new.party b) c.in-Some-true.field-0-test (subst (λ o. IfSome o (λ b. TakesUp (values_in c.share-share.result) c.args.hand.party c.take_up_some-started.new.party b)) c.in-Some-true.is c.take_up_some-started.ensures.path) in
     polls (taken_up c.args.hand.share c.into_maybe-share.result c.share-share.result c.args.hand.party c.take_up_some-started.new.party _ c.requires.hand c.share-share.ensures c.into_maybe-share.ensures t) (takes_up_unknown _ _ _ t)
 
 pub returns-in-Some-false : goal.returns-in-Some-false
-returns-in-Some-false c = let t = subst (λ b. TakesUp (values_in c.share-share.result) c.args.hand.party c.take_up_some-started.new.party b) c.in-Some-false.field-0-test (subst (λ o. IfSome o (λ b. TakesUp (values_in c.share-share.result) c.args.hand.party c.take_up_some-started.new.party b)) c.in-Some-false.is c.take_up_some-started.ensures) in
+returns-in-Some-false c = let t = subst (λ b. TakesUp (values_in c.share-share.result) c.args.hand.party c.take_up_some-started.new.party b) c.in-Some-false.field-0-test (subst (λ o. IfSome o (λ b. TakesUp (values_in c.share-share.result) c.args.hand.party c.take_up_some-started.new.party b)) c.in-Some-false.is c.take_up_some-started.ensures.path) in
     finds_closed (taken_up c.args.hand.share c.into_maybe-share.result c.share-share.result c.args.hand.party c.take_up_some-started.new.party _ c.requires.hand c.share-share.ensures c.into_maybe-share.ensures t) (takes_up_unknown _ _ _ t)
 
 pub returns-in-None : goal.returns-in-None

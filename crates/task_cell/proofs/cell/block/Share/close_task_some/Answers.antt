@@ -1,4 +1,7 @@
 use Rattle.task_cell.proofs.TaskMoves.{may_cancel, closes, looks_over}
+use Rattle.task_core.specs.Word.{is_open}
+use Rattle.task_steps.specs.TaskScripts.{to_cancel}
+use Rattle.task_cell.proofs.Attempts.{decided, set_or_clear}
 use Rattle.task_cell.proofs.cell.block.Share.close_task_some.Goals as goal
 
 pub change_some-requires-clause-allowed : goal.change_some-requires-clause-allowed
@@ -12,3 +15,6 @@ returns-in-Made-clause-path g c = λ n s. closes _ c.args.party.now c.change_som
 
 pub returns-in-Ended-clause-path : goal.returns-in-Ended-clause-path
 returns-in-Ended-clause-path g c = λ n s. looks_over _ c.args.party.now c.change_some.new.party n _ s c.change_some.ensures.cell c.in-Ended.ensures.tried
+
+pub returns-in-Again-clause-missed : goal.returns-in-Again-clause-missed
+returns-in-Again-clause-missed g c = decided c.args.self.now.block.key to_cancel c.in-Again.field-0 (λ w. set_or_clear (is_open w)) c.in-Again.ensures.missed

@@ -1,5 +1,7 @@
+use Rattle.task_cell.proofs.Vocabulary.{has_output}
 use Rattle.task_cell.proofs.PollMoved.{may_look}
 use Rattle.task_cell.proofs.PollTried.{tried_look, tried_ended}
+use Rattle.task_cell.proofs.Attempts.{set_or_clear}
 use Rattle.task_cell.proofs.cell.block.Share.look_some.Goals as goal
 
 pub alter_some-requires-clause-allowed : goal.alter_some-requires-clause-allowed
@@ -13,3 +15,6 @@ returns-clause-path g c = let s = c.requires.party in let e = c.alter_some.ensur
 
 pub returns-clause-ended : goal.returns-clause-ended
 returns-clause-ended g c = let e = c.alter_some.ensures in tried_ended _ _ c.alter_some.result c.args.party.now c.alter_some.new.party e.changed e.ended
+
+pub alter_some-requires-clause-decided : goal.alter_some-requires-clause-decided
+alter_some-requires-clause-decided g c = λ w. set_or_clear (has_output w)

@@ -1,4 +1,6 @@
 use Rattle.task_cell.proofs.Starting.{may_start, found_closed, started}
+use Rattle.task_steps.specs.StartScripts.{to_start_run}
+use Rattle.task_cell.proofs.Attempts.{decided, clear_or_set}
 use Rattle.task_cell.proofs.cell.block.Share.take_up_some.Goals as goal
 
 pub change_some-requires-clause-allowed : goal.change_some-requires-clause-allowed
@@ -7,8 +9,11 @@ change_some-requires-clause-allowed g c = (may_start _ _ _ _ _ c.args.party.now 
 pub change_some-requires-clause-shares : goal.change_some-requires-clause-shares
 change_some-requires-clause-shares g c = (may_start _ _ _ _ _ c.args.party.now c.requires.party).1
 
-pub returns-in-Made : goal.returns-in-Made
-returns-in-Made g c = started _ _ c.args.party.now c.change_some.new.party c.requires.party c.change_some.ensures.cell c.in-Made.ensures.tried
+pub returns-in-Made-clause-path : goal.returns-in-Made-clause-path
+returns-in-Made-clause-path g c = started _ _ c.args.party.now c.change_some.new.party c.requires.party c.change_some.ensures.cell c.in-Made.ensures.tried
 
-pub returns-in-Ended : goal.returns-in-Ended
-returns-in-Ended g c = found_closed _ _ c.args.party.now c.change_some.new.party c.requires.party c.change_some.ensures.cell c.in-Ended.ensures.tried
+pub returns-in-Ended-clause-path : goal.returns-in-Ended-clause-path
+returns-in-Ended-clause-path g c = found_closed _ _ c.args.party.now c.change_some.new.party c.requires.party c.change_some.ensures.cell c.in-Ended.ensures.tried
+
+pub returns-in-Again-clause-missed : goal.returns-in-Again-clause-missed
+returns-in-Again-clause-missed g c = decided c.args.self.now.block.key to_start_run c.in-Again.field-0 (λ w. clear_or_set w.closed) c.in-Again.ensures.missed

@@ -1,5 +1,5 @@
-use Rattle.task_cell.proofs.Vocabulary.{not, sym, refl, ap, ◌∙◌, subst, number_of}
-use Rattle.task_cell.proofs.Attempts.{answered, changed_by, counts_made, counts_missed, seeing_first, seeing_missed, may_exchange, may_less}
+use Rattle.task_cell.proofs.Vocabulary.{not, inl, sym, refl, ap, ◌∙◌, subst, number_of}
+use Rattle.task_cell.proofs.Attempts.{answered, changed_by, counts_made, counts_missed, seeing_first, seeing_next, found_next, other_word, other_or_undecided, may_exchange, may_less}
 use Rattle.task_cell.proofs.cell.block.Share.try_giving.Goals as goal
 use Rattle.task_core.specs.Word.{HasRoom}
 
@@ -35,5 +35,15 @@ share-requires g c = record { there = c.part_at-found.ensures.share.is_there ∙
 pub returns-clause-tried : goal.returns-clause-tried
 returns-clause-tried g c = let s = c.requires.seen in let e = c.part_at-found.ensures.seat.2 in (
   subst HasRoom (sym c.from_bits.ensures) e.2.room,
-  seeing_missed _ c.args.word c.from_bits.result _ _ _ (seeing_first c.args.word c.args.party.now.seat.me s.0 s.1 s.2) c.from_bits.ensures (e.1 (λ h. c.if-found-bits.false (h ∙ (c.bits.ensures ∙ sym c.bits-3.ensures)))),
+  seeing_next _ c.args.word c.from_bits.result _ _ _ (seeing_first c.args.word c.args.party.now.seat.me s.0 s.1 s.2) c.from_bits.ensures (e.1 (λ h. c.if-found-bits.false (h ∙ (c.bits.ensures ∙ sym c.bits-3.ensures)))),
+)
+
+pub returns-in-Ok-clause-again : goal.returns-in-Ok-clause-again
+returns-in-Ok-clause-again g c = let self = c.args.self in let limit = ap (λ x. x.limit) c.cell.ensures ∙ sym self.fitting.0 in let e = c.in-Ok.ensures.found in
+    (e.1, other_or_undecided g.P.Change.attempt _ self.block.key c.args.word c.in-Ok.found (sym c.in_default.is ∙ c.next.ensures) limit e.0)
+
+pub returns-clause-again : goal.returns-clause-again
+returns-clause-again g c = let e = c.part_at-found.ensures.seat.2 in (
+  found_next _ c.from_bits.result c.args.party.now.seat.me _ c.from_bits.ensures (e.1 (λ h. c.if-found-bits.false (h ∙ (c.bits.ensures ∙ sym c.bits-3.ensures)))),
+  inl (other_word _ _ c.args.word c.from_bits.result c.bits.ensures c.from_bits.ensures (λ h. c.if-found-bits.false (h ∙ (c.bits.ensures ∙ sym c.bits-3.ensures)))),
 )
