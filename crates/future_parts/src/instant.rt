@@ -1,10 +1,10 @@
-//! The futures without a part: one that is ready at once, and one that never is.
-ghost use Rattle.std.specs.Prelude.{◌≡◌, None};
-ghost use Rattle.future_parts.specs.Polls.{poll_of};
-ghost use Rattle.task_core.specs.declared.traits.Poll.TheVariants.{Pending as Waits};
+//! The futures without a part: one that is ready at once, one that never is, and one that lets other tasks run.
+ghost use Rattle.std.specs.Prelude.{◌≡◌, None, true, false};
+ghost use Rattle.future_parts.specs.Instant.{poll_of, WokeAndWaits};
+ghost use Rattle.task_core.specs.declared.traits.Poll.TheVariants.{Pending as Waits, Ready as Ends};
 
 use std::marker::PhantomData;
-use task_core::{Future, Poll, Yields};
+use task_core::{Future, Poll, Wake, Yields};
 
 /// The future of `ready`.
 #[derive(Drop)]
@@ -42,6 +42,36 @@ impl<W, T: Drop> Future<W> for Pending<T> {
     ghost polled = { λ _ _ answer _. answer ≡ Waits };
 
     fn poll(&mut self, _waker: &W) -> Poll<T> {
+        Poll::Pending
+    }
+}
+
+/// A future whose first poll wakes the waker that it is lent, and is pending; the next one is ready. So a task goes behind those that its executor runs first.
+pub fn yield_now() -> YieldNow
+    ensures { result.yielded ≡ false }
+{
+    YieldNow { yielded: false }
+}
+
+/// The future of `yield_now`.
+#[derive(Drop)]
+pub struct YieldNow {
+    yielded: bool,
+}
+
+impl Yields for YieldNow {
+    type Output = ();
+}
+
+impl<W: Wake> Future<W> for YieldNow {
+    ghost polled = { λ old waker answer new. (new.yielded ≡ true) × (old.yielded ≡ false → WokeAndWaits ((ended : W.Record) × W.woken_by_ref waker ended) answer) × (old.yielded ≡ true → answer ≡ Ends tt) };
+
+    fn poll(&mut self, waker: &W) -> Poll<()> {
+        if self.yielded {
+            return Poll::Ready(());
+        }
+        self.yielded = true;
+        waker.wake_by_ref();
         Poll::Pending
     }
 }

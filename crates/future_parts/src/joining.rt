@@ -1,13 +1,14 @@
 //! A future that awaits two futures side by side.
 ghost use Rattle.std.specs.Prelude.{◌≡◌};
 ghost use Rattle.task_core.specs.Poll.{IfReady};
-ghost use Rattle.future_parts.specs.Halves.{HalfPolled};
-ghost use Rattle.future_parts.specs.Joins.{HandedOut};
+ghost use Rattle.future_parts.specs.Joining.{HalfPolled, HandedOut};
 
-use crate::half::{Half, poll_half};
-use crate::kept_output::KeptOutput;
+use half::{Half, KeptOutput, poll_half};
 use std::mem;
 use task_core::{Future, Poll, Yields};
+
+pub(crate) mod all;
+pub(crate) mod half;
 
 /// The future of `join`.
 #[derive(Drop)]

@@ -1,12 +1,11 @@
-//! The functions that make the futures.
-ghost use Rattle.std.specs.Prelude.{◌≡◌, false, Some};
-ghost use Rattle.future_parts.specs.declared.half.Half.TheVariants.{Awaited};
+//! The functions whose names differ from those of the futures that they make in a capital alone: no module may have both.
+ghost use Rattle.std.specs.Prelude.{◌≡◌, Some};
+ghost use Rattle.future_parts.specs.declared.joining.half.Half.TheVariants.{Awaited};
 
-use crate::half::Half;
 use crate::instant::{Pending, Ready};
 use crate::joining::Join;
+use crate::joining::half::Half;
 use crate::racing::Race;
-use crate::yielding::YieldNow;
 use std::marker::PhantomData;
 use task_core::Yields;
 
@@ -22,13 +21,6 @@ pub fn pending<T: Drop>() -> Pending<T> {
     Pending {
         output: PhantomData,
     }
-}
-
-/// A future whose first poll wakes the waker that it is lent, and is pending; the next one is ready. So a task goes behind those that its executor runs first.
-pub fn yield_now() -> YieldNow
-    ensures { result.yielded ≡ false }
-{
-    YieldNow { yielded: false }
 }
 
 /// A future that awaits both, and answers both outputs, in this order. Each poll polls those that are not ready yet, the first one before the second. One that is ready is dropped at once, and its output kept.

@@ -1,16 +1,18 @@
 //! A notification without a value.
 ghost use Rattle.std.specs.Prelude.{◌≡◌, None, Some, true, is_none, IfOk, IfSome};
 ghost use Rattle.std.specs.Arc.{arc_value};
-ghost use Rattle.future_parts.specs.Registering.{made_with, AwaitPolled};
+ghost use Rattle.future_parts.specs.Shared.{made_with, AwaitPolled};
 
 use crate::asked::permits::Numbers;
 use crate::asked::{Answer, Place, own_waker};
 use crate::due::Step;
-use crate::notices::Notices;
 use crate::shared::Shared;
+use notices::Notices;
 use std::alloc::{AllocError, Global};
 use std::sync::{Arc, Wait};
 use task_core::{Future, Poll, Wake, Yields};
+
+pub(crate) mod notices;
 
 /// A handle by which tasks notify each other. All clones notify the same waiters. `W` is the waker of the futures that wait.
 #[derive(Drop)]

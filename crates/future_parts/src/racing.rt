@@ -1,6 +1,6 @@
 //! A future that awaits the first of two futures that is ready.
 ghost use Rattle.std.specs.Prelude.{◌≡◌};
-ghost use Rattle.future_parts.specs.Races.{AfterFirst, MeetsOne};
+ghost use Rattle.future_parts.specs.Racing.{AfterFirst, MeetsOne};
 
 use task_core::{Future, Poll, Yields};
 

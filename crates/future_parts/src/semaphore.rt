@@ -1,15 +1,17 @@
 //! A semaphore: permits for so many at a time, and a line for those who wait.
 ghost use Rattle.std.specs.Prelude.{◌≡◌, None, Some, true, is_none, IfErr, IfOk, IfSome};
 ghost use Rattle.std.specs.Arc.{arc_value};
-ghost use Rattle.future_parts.specs.Registering.{made_with, AwaitPolled};
+ghost use Rattle.future_parts.specs.Shared.{made_with, AwaitPolled};
 
 use crate::asked::permits::Numbers;
 use crate::asked::{Place, own_waker};
-use crate::lent::{Lease, Lent};
 use crate::shared::Shared;
+use lent::{Lease, Lent};
 use std::alloc::{AllocError, Global};
 use std::sync::{Arc, Wait};
 use task_core::{Future, Poll, Wake, Yields};
+
+pub(crate) mod lent;
 
 /// A handle to a semaphore. All clones share its permits. `W` is the waker of the futures that wait.
 #[derive(Drop)]

@@ -31,7 +31,7 @@ pub struct Line<W> {
 
 impl<W> Line<W> {
     ghost use Rattle.future_parts.specs.declared.asked.line.Waiter.{Waiter as AWaiter};
-    ghost use Rattle.future_parts.specs.Lines.{waiting, spot, FirstOut};
+    ghost use Rattle.future_parts.specs.Asked.{waiting, spot, FirstOut};
 
     /// An empty line, with memory for `room` waiters.
     pub fn new(alloc: Global, room: usize) -> Result<Line<W>, AllocError>

@@ -33,8 +33,7 @@ pub struct Numbers {
 }
 
 impl<W: Drop> Permits<W> {
-    ghost use Rattle.future_parts.specs.Lines.{waiting, spot, FirstOut};
-    ghost use Rattle.future_parts.specs.Asking.{Added, SameRest, Same, SameLine, TakenFrom, Joined, Renewed, Polled, SameCounts, LeavesLine, HandedOn, NotRefused, woken_by, Leaves};
+    ghost use Rattle.future_parts.specs.Asked.{waiting, spot, FirstOut, Added, SameRest, Same, SameLine, TakenFrom, Joined, Renewed, Polled, SameCounts, LeavesLine, HandedOn, NotRefused, woken_by, Leaves};
 
     /// So many free permits, and an empty line with memory for `room` waiters. An error says that memory was refused.
     pub fn new(alloc: Global, free: usize, room: usize) -> Result<Permits<W>, AllocError>

@@ -39,7 +39,7 @@ impl<T: Drop, W: Drop> Begins<()> for Single<T, W> {
 }
 
 impl<T: Drop, W: Drop> Single<T, W> {
-    ghost use Rattle.future_parts.specs.Singles.{Polled};
+    ghost use Rattle.future_parts.specs.Oneshots.{Polled};
 
     /// Neither a value nor a waker. Both ends are there.
     pub fn new() -> Single<T, W>
