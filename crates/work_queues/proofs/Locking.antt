@@ -1,5 +1,5 @@
 -- Each step on a board keeps its rule.
-use Rattle.std.proofs.Common.{◌≡◌, ◌≢◌, ℕ, zero, suc, ◌+◌, ◌*◌, ◌<◌, ◌≤◌, ◌⊎◌, List, [], ◌∷◌, ◌++◌, map, length, get_or, set, sym, refl, ap, ◌∙◌, subst, inl, inr, ⊎_elim, arith, length-set, get_or-set_other, get_or-set_same, eqb}
+use Rattle.std.proofs.Common.{◌≡◌, ◌≢◌, ℕ, zero, suc, ◌+◌, ◌*◌, ◌<◌, ◌≤◌, ◌⊎◌, List, [], ◌∷◌, ◌++◌, map, length, drop, get_or, set, sym, refl, ap, ◌∙◌, subst, inl, inr, ⊎_elim, arith, length-set, get_or-set_other, get_or-set_same, eqb}
 use Rattle.std.proofs.lemmas.List.{length-map}
 use mathlib.Core.Logic.{dite}
 use mathlib.Core.Option.{Option, none, some, some-injective, some-ne-none}
@@ -111,6 +111,13 @@ snoc P (y ∷ ys) x each last (suc i) a at = snoc (λ k. P (suc k)) ys x (λ k. 
 
 pub each-more : {A : Type 0} (P : ℕ → A → Type 0) (old new : List A) (x : A) (n : ℕ) → new ≡ old ++ x ∷ [] → length old ≡ n → ((i : ℕ) (a : A) → get_elem? old i ≡ some a → P i a) → P n x → (i : ℕ) (a : A) → get_elem? new i ≡ some a → P i a
 each-more {A} P old new x n is long each last i a at = snoc P old x each (subst (λ (k : ℕ). P k x) (sym long) last) i a (ap (λ (l : List A). get_elem? l i) (sym is) ∙ at)
+
+-- two cuts of one list: what is between them
+pub between : {A : Type 0} (a b c d : List A) → a ++ b ≡ c ++ d → length c ≤ length a → (piece : List A) × (a ≡ c ++ piece) × (d ≡ piece ++ b)
+between a b [] d cut le = (a, refl, sym cut)
+between [] b (x ∷ c) d cut le = absurd (omega arith)
+between {A} (y ∷ a) b (x ∷ c) d cut le = let t = between a b c d (ap (drop 1) cut) (omega arith) in
+    (t.0, ap (λ (l : List A). y ∷ l) t.1 ∙ ap (λ (z : A). z ∷ c ++ t.0) (some-injective y x (ap (λ (l : List A). get_elem? l 0) cut)), t.2)
 
 -- a seat that locked a queue has it alone, as it was shelved
 pub locked : {S : Type 0} (P : TableId → ℕ → S → Type 0) (bells : TableId) (i : ℕ) (before after : Me S Room) → (queue : S) × (after ≡ (before.0, (i, queue) ∷ before.1)) × P before.0.bells i queue → before ≡ (room bells, []) → (queue : S) × HasQueue i after queue × P bells i queue

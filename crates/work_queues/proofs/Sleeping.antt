@@ -9,7 +9,7 @@ use prog.Atomic.{either}
 use Rattle.atomic_table.specs.Table.{State, Me, Act, Valid, carried_after, stepped, step, opening, keeps, Allows, Enters}
 use Rattle.atomic_table.proofs.Lists.{at_set, set_else, set_again, at_longer, at_snoc, exchanged}
 use Rattle.work_queues.specs.declared.view.View.{View}
-use Rattle.work_queues.specs.Sleep.{padding, view, blank, has_right, owing, paid, left_of, sees, searches, sleeps, one, sleepers, AnySeat, Owes, IsWoken, Watch, Finds, Takes, GivesBack, Shows, Hides, due, not_due, taken, knows, interrupts, Interrupts, LooksWhetherDue, Hears, Permits, Rouses, LooksForSleepers, LooksForSearcher, LooksAtWorker, Wakes, LooksAtFlag, Settles, BeginsSearch, EndsSearch, Counts, LiesDown, GetsUp, CountsNot}
+use Rattle.work_queues.specs.Sleep.{padding, view, blank, has_right, owing, paid, left_of, sees, searches, sleeps, one, sleepers, AnySeat, Owes, IsWoken, Watch, Finds, Takes, GivesBack, Shows, Hides, due, not_due, taken, roused, knows, interrupts, Interrupts, LooksWhetherDue, Hears, Permits, Rouses, LooksForSleepers, LooksForSearcher, LooksAtWorker, Wakes, LooksAtFlag, Settles, BeginsSearch, EndsSearch, Counts, LiesDown, GetsUp, CountsNot}
 
 -- a seat whose view is w in place of v
 reaches : (l : List View) (i : ℕ) (a b : View) → get_elem? l i ≡ some a → get_elem? (set l i b) i ≡ some b
@@ -170,10 +170,10 @@ module _ (S : Type 0) (n : ℕ) where
 
   pub settles : (slots id : ℕ) (me : Me S View) (x : ℕ) → (suc (suc n) ≤ me.0.seen) ⊎ (n ≤ me.0.from) → Allows (Watch n) slots id me x (λ y. y) (Settles (step slots x 0 0 none) me)
   settles slots id me x done s o _ mine _ = (
-    paid me.0,
+    sees (paid me.0) me.0.seen,
     keeps,
     tt,
-    looks s o x id me.0 mine 0 0 0 me.0.interruption me.0.interrupted (λ i j le lt shows sleeping owes. absurd (⊎_elim (λ (d : suc (suc n) ≤ me.0.seen). let reached = owes.1 in omega arith) (λ (d : n ≤ me.0.from). let reached = owes.2 in omega arith) done)),
+    looks s o x id me.0 mine 0 me.0.seen 0 me.0.interruption me.0.interrupted (λ i j le lt shows sleeping owes. absurd (⊎_elim (λ (d : suc (suc n) ≤ me.0.seen). let reached = owes.1 in omega arith) (λ (d : n ≤ me.0.from). let reached = owes.2 in omega arith) done)),
     refl,
   )
 
@@ -279,17 +279,18 @@ module _ (S : Type 0) (n : ℕ) where
   learns s o x id v me interruption interrupted = looks s o x id v me v.owes v.seen v.from interruption interrupted (λ i j le lt shows sleeping owes. inl owes)
 
   -- a worker that was not on its way becomes one that is not asleep
-  roused : (s : St) → Watch n s → (x j new id : ℕ) (v : View) → get_elem? s.views id ≡ some v → x ≡ padding * (n + 2 + j) → j < n → at s x ≢ 3 → new ≢ 1 → new ≢ 4 → Watch n (board (set s.words x new) s.homes (set s.views id (interrupts v x)))
-  roused s o x j new id v mine is lt not-woken awake claimed =
-      subst (λ (y : ℕ). Watch n (board (set s.words y new) s.homes (set s.views id (interrupts v x)))) (sym is)
-      (at_worker s o j new id v (interrupts v x) lt mine refl refl claimed (λ p. p) refl
-      (lain_still s o j new id v (interrupts v x) mine (λ e. absurd (awake e)) (λ i lt ne p. p) (λ _. refl) lt)
-      (watched_still s o (padding * (n + 2 + j)) new id v (interrupts v x) mine (λ three. not-woken (ap (at s) is ∙ three)) (λ p. p) (λ i k p. p) (λ e. absurd (awake e))))
+  is_up : (s : St) → Watch n s → (x j new id : ℕ) (v : View) (interruption : ℕ) → get_elem? s.views id ≡ some v → x ≡ padding * (n + 2 + j) → j < n → at s x ≢ 3 → new ≢ 1 → new ≢ 4
+      → Watch n (board (set s.words x new) s.homes (set s.views id (knows (interrupts v x) interruption)))
+  is_up s o x j new id v interruption mine is lt not-woken awake claimed = let w : View = knows (interrupts v x) interruption in
+      subst (λ (y : ℕ). Watch n (board (set s.words y new) s.homes (set s.views id w))) (sym is)
+      (at_worker s o j new id v w lt mine refl refl claimed (λ p. p) refl
+      (lain_still s o j new id v w mine (λ e. absurd (awake e)) (λ i lt ne p. p) (λ _. refl) lt)
+      (watched_still s o (padding * (n + 2 + j)) new id v w mine (λ three. not-woken (ap (at s) is ∙ three)) (λ p. p) (λ i k p. p) (λ e. absurd (awake e))))
 
   pub permits : (slots id : ℕ) (me : Me S View) (x j : ℕ) (said : Option S) → x ≡ padding * (n + 2 + j) → j < n → Allows (Watch n) slots id me x (λ y. either (eqb y 0) 2 y) (Permits (step slots x 0 2 said) me)
   permits slots id me x j said is lt s o many mine small = exchanged (at s x) 0 2
       (λ y. (w : View) × (a : Act S) × Valid s.homes me.1 a × Watch n (stepped s x y id me.1 w a) × Permits (step slots x 0 2 said) me (at s x) (w, carried_after me.1 a))
-      (λ e. (interrupts me.0 x, keeps, tt, roused s o x j 2 id me.0 mine is lt (λ three. omega arith) (λ one. omega arith) (λ four. omega arith), (refl, refl, ((λ one. absurd (omega arith)), λ _. refl))))
+      (λ e. (interrupts me.0 x, keeps, tt, is_up s o x j 2 id me.0 me.0.interruption mine is lt (λ three. omega arith) (λ one. omega arith) (λ four. omega arith), (refl, refl, ((λ one. absurd (omega arith)), λ _. refl))))
       (λ _. dite (ℕ_discrete (at s x) 1)
       (λ e. (me.0, keeps, tt, unmoved s o x id me.0 mine, (refl, refl, ((λ _. refl), λ ne. absurd (ne e)))))
       (λ ne. (interrupts me.0 x, keeps, tt, learns s o x id me.0 mine me.0.interruption (suc x), (refl, refl, ((λ e. absurd (ne e)), λ _. refl)))))
@@ -297,33 +298,22 @@ module _ (S : Type 0) (n : ℕ) where
   pub rouses : (slots id : ℕ) (me : Me S View) (x j : ℕ) (said : Option S) → x ≡ padding * (n + 2 + j) → j < n → Allows (Watch n) slots id me x (λ y. either (eqb y 1) 3 y) (Rouses (step slots x 1 3 said) me)
   rouses slots id me x j said is lt s o many mine small = exchanged (at s x) 1 3
       (λ y. (w : View) × (a : Act S) × Valid s.homes me.1 a × Watch n (stepped s x y id me.1 w a) × Rouses (step slots x 1 3 said) me (at s x) (w, carried_after me.1 a))
-      (λ e. (interrupts me.0 x, keeps, tt, roused s o x j 3 id me.0 mine is lt (λ three. omega arith) (λ one. omega arith) (λ four. omega arith), (refl, refl, refl)))
-      (λ _. (interrupts me.0 x, keeps, tt, learns s o x id me.0 mine me.0.interruption (suc x), (refl, refl, refl)))
+      (λ e. (knows (interrupts me.0 x) roused, keeps, tt, is_up s o x j 3 id me.0 roused mine is lt (λ three. omega arith) (λ one. omega arith) (λ four. omega arith), (refl, refl, ((λ _. refl), λ ne. absurd (ne e)))))
+      (λ ne. (interrupts me.0 x, keeps, tt, learns s o x id me.0 mine me.0.interruption (suc x), (refl, refl, ((λ e. absurd (ne e)), λ _. refl))))
 
   pub looks_whether_due : (slots id : ℕ) (me : Me S View) (x : ℕ) → Allows (Watch n) slots id me x (λ y. y) (LooksWhetherDue (step slots x 0 0 none) me)
   looks_whether_due slots id me x s o _ mine _ = dite (ℕ_discrete (at s x) 1)
       (λ e. (knows me.0 due, keeps, tt, learns s o x id me.0 mine due me.0.interrupted, ((λ _. refl), λ ne. absurd (ne e))))
       (λ ne. (knows me.0 not_due, keeps, tt, learns s o x id me.0 mine not_due me.0.interrupted, ((λ e. absurd (ne e)), λ _. refl)))
 
-  pub lies_down : (slots id : ℕ) (me : Me S View) (x j : ℕ) (said : Option S) → x ≡ padding * (n + 2 + j) → j < n → me.0.asleep ≡ 1 → Allows (Watch n) slots id me x (λ y. either (eqb y 0) 1 y) (LiesDown (step slots x 0 1 said) me)
-  lies_down slots id me x j said is lt counted s o many mine small = tries id me x 0 1 (λ v. owing (sleeps v (suc x))) (λ v. v) s
-      (λ e. let w : View = owing (sleeps me.0 (suc (padding * (n + 2 + j)))) in
-      subst (λ (y : ℕ). Watch n (board (set s.words y 1) s.homes (set s.views id (owing (sleeps me.0 (suc y)))))) (sym is)
-      (at_worker s o j 1 id me.0 w lt mine refl refl (λ e. omega arith) (λ p. p) (ap one (sym counted))
-      (λ i lt' sleeping. dite (ℕ_discrete i j)
-      (λ e. any_here (λ v. v.asleep ≡ suc (padding * (n + 2 + i))) s.views id me.0 w mine (ap (λ (y : ℕ). suc (padding * (n + 2 + y))) (sym e)))
-      (λ ne. any_still (λ v. v.asleep ≡ suc (padding * (n + 2 + i))) s.views id me.0 w mine (λ p. absurd (omega arith)) (o.lain i lt' (sym (get_or-set_other s.words (padding * (n + 2 + j)) (padding * (n + 2 + i)) 1 0 (λ e. ne (omega arith))) ∙ sleeping))))
-      (owed_by s.views (set s.words (padding * (n + 2 + j)) 1) id me.0 w mine refl refl refl)))
-      (λ ne. unmoved s o x id me.0 mine)
-
-  pub gets_up : (slots id : ℕ) (me : Me S View) (x j : ℕ) → x ≡ padding * (n + 2 + j) → j < n → (me.0.asleep ≡ 1) ⊎ (me.0.asleep ≡ suc x) → Allows (Watch n) slots id me x (λ _. 0) (GetsUp (step slots x 0 0 none) me)
-  gets_up slots id me x j is lt counted s o many mine small = let w : View = owing (sleeps me.0 1) in (
+  pub gets_up : (slots id : ℕ) (me : Me S View) (x j : ℕ) → x ≡ padding * (n + 2 + j) → j < n → (me.0.asleep ≡ suc x) ⊎ (me.0.asleep ≡ suc (suc x)) → Allows (Watch n) slots id me x (λ _. 0) (GetsUp (step slots x 0 0 none) me)
+  gets_up slots id me x j is lt asleep s o many mine small = let w : View = owing (sleeps me.0 1) in (
     w,
     keeps,
     tt,
     subst (λ (y : ℕ). Watch n (board (set s.words y 0) s.homes (set s.views id w))) (sym is)
-        (at_worker s o j 0 id me.0 w lt mine refl refl (λ e. omega arith) (λ p. p) (⊎_elim (λ e. ap one (sym e)) (λ e. ap one (sym e)) counted)
-        (lain_still s o j 0 id me.0 w mine (λ e. absurd (omega arith)) (λ i lt' ne p. absurd (⊎_elim (λ e. omega arith) (λ e. ne (omega arith)) counted)) (λ e. absurd (omega arith)) lt)
+        (at_worker s o j 0 id me.0 w lt mine refl refl (λ e. omega arith) (λ p. p) (⊎_elim (λ e. ap one (sym e)) (λ e. ap one (sym e)) asleep)
+        (lain_still s o j 0 id me.0 w mine (λ e. absurd (omega arith)) (λ i lt' ne p. absurd (⊎_elim (λ e. ne (omega arith)) (λ e. omega arith) asleep)) (λ e. absurd (omega arith)) lt)
         (owed_by s.views (set s.words (padding * (n + 2 + j)) 0) id me.0 w mine refl refl refl)),
     refl,
   )
@@ -355,6 +345,23 @@ module _ (S : Type 0) (n : ℕ) where
         (let a = sleepers_one s.views id me.0 mine in let b = ap one counted in let c = o.counted in let d = ap (at s) is in omega arith) (λ j p. absurd (omega arith)),
     refl,
   )
+
+  -- a step that changes no word, by which a seat that counts as a sleeper tries to put a worker to sleep
+  tried : (s : St) → Watch n s → (x id : ℕ) (v : View) (asleep : ℕ) → get_elem? s.views id ≡ some v → v.asleep ≡ 1 → Watch n (board (set s.words x (at s x)) s.homes (set s.views id (sleeps v (suc asleep))))
+  tried s o x id v asleep mine counted = let count : ℕ = padding * (n + n + 3) in let w : View = sleeps v (suc asleep) in
+      subst (λ (ws : List ℕ). Watch n (board ws s.homes (set s.views id w))) (set-get_or s.words count 0 ∙ sym (set-get_or s.words x 0))
+      (at_count s o count (at s count) id v w refl mine refl refl (λ p. p) (λ i j p. p) (let b = ap one counted in omega arith) (λ j p. absurd (omega arith)))
+
+  pub lies_down : (slots id : ℕ) (me : Me S View) (x j : ℕ) (said : Option S) → x ≡ padding * (n + 2 + j) → j < n → me.0.asleep ≡ 1 → Allows (Watch n) slots id me x (λ y. either (eqb y 0) 1 y) (LiesDown (step slots x 0 1 said) me)
+  lies_down slots id me x j said is lt counted s o many mine small = tries id me x 0 1 (λ v. owing (sleeps v (suc x))) (λ v. sleeps v (suc (suc x))) s
+      (λ e. let w : View = owing (sleeps me.0 (suc (padding * (n + 2 + j)))) in
+      subst (λ (y : ℕ). Watch n (board (set s.words y 1) s.homes (set s.views id (owing (sleeps me.0 (suc y)))))) (sym is)
+      (at_worker s o j 1 id me.0 w lt mine refl refl (λ e. omega arith) (λ p. p) (ap one (sym counted))
+      (λ i lt' sleeping. dite (ℕ_discrete i j)
+      (λ e. any_here (λ v. v.asleep ≡ suc (padding * (n + 2 + i))) s.views id me.0 w mine (ap (λ (y : ℕ). suc (padding * (n + 2 + y))) (sym e)))
+      (λ ne. any_still (λ v. v.asleep ≡ suc (padding * (n + 2 + i))) s.views id me.0 w mine (λ p. absurd (omega arith)) (o.lain i lt' (sym (get_or-set_other s.words (padding * (n + 2 + j)) (padding * (n + 2 + i)) 1 0 (λ e. ne (omega arith))) ∙ sleeping))))
+      (owed_by s.views (set s.words (padding * (n + 2 + j)) 1) id me.0 w mine refl refl refl)))
+      (λ ne. tried s o x id me.0 (suc x) mine counted)
 
   pub begins_search : (slots id : ℕ) (me : Me S View) (x : ℕ) (said : Option S) → x ≡ padding * (n + n + 2) → Allows (Watch n) slots id me x (λ y. either (eqb y 0) 1 y) (BeginsSearch (step slots x 0 1 said) me)
   begins_search slots id me x said is s o many mine small = let w : View = searches me.0 1 in tries id me x 0 1 (λ v. searches v 1) (λ v. v) s

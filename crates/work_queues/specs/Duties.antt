@@ -4,10 +4,12 @@ use Rattle.atomic_table.specs.Seated.{TableId}
 use Rattle.work_queues.specs.declared.bells.Bells.{Bells}
 use Rattle.work_queues.specs.declared.bells.Flag.{Flag}
 use Rattle.work_queues.specs.declared.bells.Claim.{Claim}
+use Rattle.work_queues.specs.declared.bells.Due.{Due}
 use Rattle.work_queues.specs.declared.bells.Interrupted.{Interrupted}
+use Rattle.work_queues.specs.declared.bells.NotDue.{NotDue}
 use Rattle.work_queues.specs.declared.bells.NothingShown.{NothingShown}
 use Rattle.work_queues.specs.declared.bells.Sleeper.{Sleeper}
-use Rattle.work_queues.specs.Sleep.{padding, has_right}
+use Rattle.work_queues.specs.Sleep.{padding, has_right, due, not_due}
 
 -- it is the right to the flag of its queue at the bells of this table, which shows what it says, and owes no look
 abbrev pub IsFlagAt : TableId → Flag → Type 0
@@ -21,6 +23,14 @@ IsFlag bells flag = IsFlagAt bells.table.shared.table_id flag
 abbrev pub IsClaim : Bells → Claim → Type 0
 IsClaim bells claim = (claim.place.seat.table_id ≡ bells.table.shared.table_id) × (claim.number < bells.workers) × (claim.place.seat.me ≡ (has_right (padding * (bells.workers + 2 + claim.number)) 0, []))
 
+-- an interruption was due at these bells
+abbrev pub WasDue : Bells → Due → Type 0
+WasDue bells found = (found.seat.table_id ≡ bells.table.shared.table_id) × (found.seat.me.0.interruption ≡ due)
+
+-- none was due at these bells
+abbrev pub WasNotDue : Bells → NotDue → Type 0
+WasNotDue bells found = (found.seat.table_id ≡ bells.table.shared.table_id) × (found.seat.me.0.interruption ≡ not_due)
+
 -- this worker of these bells was interrupted
 abbrev pub IsInterrupted : Bells → ℕ → Interrupted → Type 0
 IsInterrupted bells worker interrupted = (interrupted.worker ≡ worker) × (interrupted.seat.table_id ≡ bells.table.shared.table_id) × (interrupted.seat.me.0.interrupted ≡ padding * (bells.workers + 2 + worker) + 1)
@@ -28,6 +38,10 @@ IsInterrupted bells worker interrupted = (interrupted.worker ≡ worker) × (int
 -- it has looked at the flag of each queue of these bells, which showed no item
 abbrev pub SawNothing : Bells → NothingShown → Type 0
 SawNothing bells none = (none.seat.table_id ≡ bells.table.shared.table_id) × (none.seat.me.0.seen ≡ bells.workers + 1)
+
+-- it owes no look: it has looked at the flag of each queue and at that of interruptions, none of which showed anything
+abbrev pub SawEach : Bells → Sleeper → Type 0
+SawEach bells sleeper = (sleeper.place.seat.me.0.owes ≡ 0) × (sleeper.place.seat.me.0.seen ≡ bells.workers + 2)
 
 -- it is asleep at these bells
 abbrev pub IsAsleep : Bells → Sleeper → Type 0

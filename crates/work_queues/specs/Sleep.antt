@@ -39,6 +39,10 @@ has_right word value = view (suc word) value 0 0 0 0 0 0 0
 abbrev pub owing : View → View
 owing v = view v.right v.value 1 0 0 v.searching v.asleep v.interruption v.interrupted
 
+-- it has woken the worker that it interrupted
+abbrev pub roused : ℕ
+roused = 4
+
 -- no look is owed
 abbrev pub paid : View → View
 paid v = view v.right v.value 0 0 0 v.searching v.asleep v.interruption v.interrupted
@@ -55,7 +59,7 @@ sees v seen = view v.right v.value v.owes seen v.from v.searching v.asleep v.int
 abbrev pub searches : View → ℕ → View
 searches v searching = view v.right v.value v.owes v.seen v.from searching v.asleep v.interruption v.interrupted
 
--- it counts as no sleeper, at 0, as one, at 1, or put a worker to sleep, at one more than its word
+-- it counts as no sleeper, at 0, as one, at 1, or put a worker to sleep, at one more than its word, or found it interrupted, at two more
 abbrev pub sleeps : View → ℕ → View
 sleeps v asleep = view v.right v.value v.owes v.seen v.from v.searching asleep v.interruption v.interrupted
 
@@ -150,9 +154,9 @@ module _ {S : Type 0} where
   abbrev pub Permits : Step S → Me S View → ℕ → Me S View → Type 0
   Permits step before found after = (step.first ≡ 0) × (step.second ≡ 2) × Finds 1 (λ v. v) (λ v. interrupts v step.word) before found after
 
-  -- where the worker was asleep, its word says woken
+  -- the worker was interrupted: where it was asleep, its word says woken, which the seat knows
   abbrev pub Rouses : Step S → Me S View → ℕ → Me S View → Type 0
-  Rouses step before found after = (step.first ≡ 1) × (step.second ≡ 3) × (after ≡ (interrupts before.0 step.word, before.1))
+  Rouses step before found after = (step.first ≡ 1) × (step.second ≡ 3) × Finds 1 (λ v. knows (interrupts v step.word) roused) (λ v. interrupts v step.word) before found after
 
   -- a look whether a worker sleeps: where none does, no look is owed, and else all are
   abbrev pub LooksForSleepers : Step S → Me S View → ℕ → Me S View → Type 0
@@ -174,9 +178,9 @@ module _ {S : Type 0} where
   abbrev pub LooksAtFlag : Step S → Me S View → ℕ → Me S View → Type 0
   LooksAtFlag step before found after = Finds 1 (λ v. v) (λ v. sees v (suc v.seen)) before found after
 
-  -- all looks that were owed are done
+  -- all looks that were owed are done, at the flags that it has looked at
   abbrev pub Settles : Step S → Me S View → ℕ → Me S View → Type 0
-  Settles step before found after = after ≡ (paid before.0, before.1)
+  Settles step before found after = after ≡ (sees (paid before.0) before.0.seen, before.1)
 
   -- a worker is the searcher, where there was none
   abbrev pub BeginsSearch : Step S → Me S View → ℕ → Me S View → Type 0
@@ -190,9 +194,9 @@ module _ {S : Type 0} where
   abbrev pub Counts : Step S → Me S View → ℕ → Me S View → Type 0
   Counts step before found after = Finds step.first (λ v. sleeps v 1) (λ v. v) before found after
 
-  -- a worker is asleep, unless it was interrupted, and all looks are owed
+  -- a worker is asleep, and all looks are owed, unless it was interrupted, which the seat knows
   abbrev pub LiesDown : Step S → Me S View → ℕ → Me S View → Type 0
-  LiesDown step before found after = Finds 0 (λ v. owing (sleeps v (suc step.word))) (λ v. v) before found after
+  LiesDown step before found after = Finds 0 (λ v. owing (sleeps v (suc step.word))) (λ v. sleeps v (suc (suc step.word))) before found after
 
   -- a worker is awake, and all looks are owed
   abbrev pub GetsUp : Step S → Me S View → ℕ → Me S View → Type 0

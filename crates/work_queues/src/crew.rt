@@ -1,9 +1,9 @@
 //! What the workers of a pool share, and what each does with it: push, find, and rest.
-ghost use Rattle.std.specs.Prelude.{◌≡◌, ◌<◌, ◌≤◌, ◌+◌, ◌/◌, ◌%◌, ◌++◌, ◌↔◌, [], min, option_to_list, IfErr, IfOk, IfSome, IsNone, IsSome, OnOk};
+ghost use Rattle.std.specs.Prelude.{◌≡◌, ◌<◌, ◌≤◌, ◌+◌, ◌/◌, ◌%◌, ◌++◌, ◌↔◌, List, [], min, max, option_to_list, IfErr, IfOk, IfSome, IsNone, IsSome, OnOk};
 ghost use Rattle.std.specs.Arc.{arc_value};
 ghost use Rattle.std.specs.VecDeque.{deque_len, deque_capacity};
 ghost use Rattle.std.proofs.Props.{props};
-ghost use Rattle.work_queues.specs.Duties.{IsClaim};
+ghost use Rattle.work_queues.specs.Duties.{IsClaim, WasDue, WasNotDue};
 
 mod sharing;
 
@@ -111,7 +111,7 @@ impl<T, A: Allocator> Worker<T, A> {
     // Ends the looks that it owes: where a flag shows something, another worker is woken.
     fn pay_looks(&mut self)
         ensures owed { IsNone self.new.owed }
-        ensures kept { (self.new.heard ≡ self.old.heard) × (self.new.batch ≡ self.old.batch) }
+        ensures kept { (self.new.heard ≡ self.old.heard) × (self.new.batch ≡ self.old.batch) × (self.new.bells ≡ self.old.bells) }
     {
         if let Some(look) = self.owed.take() {
             self.bells.settle(look);
@@ -132,7 +132,8 @@ impl<T, A: Allocator> Worker<T, A> {
     /// Has another worker do what it owes, where it owes something: it looks no more for now. Where a queue shows an item, one that sleeps is woken, if none searches. An interruption that it has heard is due again, which is the answer.
     pub fn pay(&mut self) -> Option<Due>
         ensures owes { OwesNothing self.new }
-        ensures due { IsSome self.old.heard → IsSome result }
+        ensures due { (IsSome self.old.heard → IsSome result) × IfSome result (WasDue (arc_value self.old.bells)) }
+        ensures batch { self.new.batch ≡ self.old.batch }
     {
         self.pay_looks();
         let heard = self.heard.take()?;
@@ -167,7 +168,7 @@ impl<T, A: Allocator> Worker<T, A> {
     ) -> Look
         requires { look.place.seat.table_id ≡ (arc_value self.old.bells).table.shared.table_id }
         ensures look { result.place.seat.table_id ≡ (arc_value self.old.bells).table.shared.table_id }
-        ensures kept { (self.new.bells ≡ self.old.bells) × (self.new.owed ≡ self.old.owed) }
+        ensures kept { (self.new.bells ≡ self.old.bells) × (self.new.owed ≡ self.old.owed) × (self.new.batch ≡ self.old.batch) }
     {
         self.counts.sleeps = self.counts.sleeps.wrapping_add(1);
         self.sleep(rt, look, interruptions, limit)
@@ -176,7 +177,8 @@ impl<T, A: Allocator> Worker<T, A> {
     // It owes these looks until it has found an item.
     fn owe(&mut self, look: Look)
         requires { look.place.seat.table_id ≡ (arc_value self.old.bells).table.shared.table_id }
-        ensures { IsSome self.new.owed }
+        ensures owed { IsSome self.new.owed }
+        ensures kept { (self.new.bells ≡ self.old.bells) × (self.new.batch ≡ self.old.batch) }
     {
         if let Some(before) = mem::replace(&mut self.owed, Some(look)) {
             self.bells.settle(before);
@@ -185,8 +187,9 @@ impl<T, A: Allocator> Worker<T, A> {
 
     // It has looked once more for what it has heard, and hears what is due now. `None` where it has heard an interruption.
     fn hear(&mut self) -> Option<NotDue>
-        ensures owed { self.new.owed ≡ self.old.owed }
         ensures heard { IsNone result → IsSome self.new.heard }
+        ensures not_due { IfSome result (WasNotDue (arc_value self.old.bells)) }
+        ensures kept { (self.new.owed ≡ self.old.owed) × (self.new.batch ≡ self.old.batch) }
     {
         let (heard, not_due) = match self.bells.hear() {
             Ok(not_due) => (None, Some(not_due)),
@@ -200,13 +203,17 @@ impl<T, A: Allocator> Worker<T, A> {
 }
 
 impl<T: Drop, A: Allocator + Copy> Crew<T, A> {
+    ghost use Rattle.work_queues.specs.Settled.{OwesNothing};
+
     /// Empty queues for so many workers, at least one and at most `MOST_WORKERS`, with room for `room` items in each before it asks `items` for more memory. All else is of `alloc`. An error says that there was no memory.
     pub fn new(
         alloc: Global,
         items: A,
         workers: usize,
         room: usize,
-    ) -> Result<Crew<T, A>, AllocError> {
+    ) -> Result<Crew<T, A>, AllocError>
+        ensures { IfOk result (λ crew. ((arc_value crew.bells).workers ≡ min (max workers 1) 1024) × (crew.settings.room ≡ room)) }
+    {
         Crew::with_settings(alloc, items, workers, Settings::new().room(room))
     }
 
@@ -217,7 +224,7 @@ impl<T: Drop, A: Allocator + Copy> Crew<T, A> {
         workers: usize,
         settings: Settings,
     ) -> Result<Crew<T, A>, AllocError>
-        ensures { IfOk result (λ crew. crew.settings ≡ settings) }
+        ensures { IfOk result (λ crew. ((arc_value crew.bells).workers ≡ min (max workers 1) 1024) × (crew.settings ≡ settings)) }
     {
         let bells = Arc::new(alloc, Bells::new(alloc, workers)?)?;
         let board = Board::new(alloc, items, Arc::try_clone(&bells)?, settings.room)?;
@@ -232,6 +239,7 @@ impl<T: Drop, A: Allocator + Copy> Crew<T, A> {
     pub fn worker(&self, items: A, number: usize) -> Result<Worker<T, A>, WorkerError>
         ensures worker { IfOk result (λ worker. (worker.number ≡ number) × (number < (arc_value self.now.bells).workers)) }
         ensures batch { IfOk result (λ worker. (worker.batch.items ≡ []) × (deque_capacity worker.batch ≡ self.now.settings.batch)) }
+        ensures owes { IfOk result (λ worker. OwesNothing worker) }
         ensures none { result ≡ Err WorkerError.NoSuchWorker ↔ ((arc_value self.now.bells).workers ≤ number) }
     {
         if number >= self.workers() {
@@ -296,7 +304,7 @@ impl<T, A: Allocator> Crew<T, A> {
         pushed
     }
 
-    /// Takes the item at the front of a worker's queue, or, where there is no worker of this number, of the queue for what comes from outside. `None` where it is empty.
+    /// Takes the item at the front of a worker's queue, or, where there is no worker of this number, of the queue for what comes from outside. `None` where it is empty. No clause says which queue, as none of `Board::pop` does.
     pub fn pop<R: Wait>(&self, rt: &R, queue: usize) -> Option<T> {
         let queue = queue.min(self.board.workers());
         if self.board.is_empty(queue) {
@@ -308,7 +316,9 @@ impl<T, A: Allocator> Crew<T, A> {
     }
 
     // One item of another queue, and up to half of the others into the own queue.
-    fn steal<R: Wait>(&self, rt: &R, worker: &mut Worker<T, A>, from: usize) -> Option<T> {
+    fn steal<R: Wait>(&self, rt: &R, worker: &mut Worker<T, A>, from: usize) -> Option<T>
+        ensures { IsNone result → worker.new.batch.items ≡ [] }
+    {
         let from = from.min(self.board.workers());
         let woken = self.board.take_half(rt, from, &mut worker.batch);
         self.ring(woken);
@@ -331,7 +341,10 @@ impl<T, A: Allocator> Crew<T, A> {
     }
 
     // The first item of the batch in its hands. The others go into its own queue.
-    fn keep_batch<R: Wait>(&self, rt: &R, worker: &mut Worker<T, A>) -> Option<T> {
+    fn keep_batch<R: Wait>(&self, rt: &R, worker: &mut Worker<T, A>) -> Option<T>
+        ensures first { 0 < deque_len worker.old.batch → IsSome result }
+        ensures none { IsNone result → worker.new.batch.items ≡ [] }
+    {
         let first = worker.batch.pop_front();
         if !worker.batch.is_empty() {
             drop(self.put_batch(rt, worker));
@@ -340,7 +353,10 @@ impl<T, A: Allocator> Crew<T, A> {
     }
 
     // Takes no lock of a queue that is empty, nor of one whose worker is about to empty it. Each worker begins behind its own queue, so that thieves spread.
-    fn find_elsewhere<R: Wait>(&self, rt: &R, worker: &mut Worker<T, A>) -> Option<T> {
+    fn find_elsewhere<R: Wait>(&self, rt: &R, worker: &mut Worker<T, A>) -> Option<T>
+        requires { worker.old.batch.items ≡ [] }
+        ensures { IsNone result → worker.new.batch.items ≡ [] }
+    {
         let workers = self.board.workers();
         if !self.board.is_empty(workers) {
             if let Some(item) = self.steal(rt, worker, workers) {
@@ -386,7 +402,10 @@ impl<T, A: Allocator> Crew<T, A> {
     }
 
     // What a worker that always has items of its own would never come to: half of the next other worker's queue, if it is the turn of that, or what came from outside.
-    fn find_overdue<R: Wait>(&self, rt: &R, worker: &mut Worker<T, A>) -> Option<T> {
+    fn find_overdue<R: Wait>(&self, rt: &R, worker: &mut Worker<T, A>) -> Option<T>
+        requires { worker.old.batch.items ≡ [] }
+        ensures { IsNone result → worker.new.batch.items ≡ [] }
+    {
         let workers = self.board.workers();
         if worker.visits % OTHERS_EVERY == 0 {
             let from = whose_turn(worker.visits, workers);
@@ -406,6 +425,7 @@ impl<T, A: Allocator> Crew<T, A> {
         ensures owes { IsSome result → OwesNothing worker.new }
         ensures hands { 0 < deque_len worker.old.batch → worker.old.batch.items ≡ option_to_list result ++ worker.new.batch.items }
         ensures found { 0 < deque_len worker.old.batch → IsSome result }
+        ensures none { IsNone result → worker.new.batch.items ≡ [] }
     {
         let item = self.find_next(rt, worker);
         if item.is_some() {
@@ -418,6 +438,7 @@ impl<T, A: Allocator> Crew<T, A> {
     fn find_next<R: Wait>(&self, rt: &R, worker: &mut Worker<T, A>) -> Option<T>
         ensures hands { 0 < deque_len worker.old.batch → worker.old.batch.items ≡ option_to_list result ++ worker.new.batch.items }
         ensures found { 0 < deque_len worker.old.batch → IsSome result }
+        ensures none { IsNone result → worker.new.batch.items ≡ [] }
     {
         if let Some(item) = worker.batch.pop_front() {
             return Some(item);
@@ -436,8 +457,21 @@ impl<T, A: Allocator> Crew<T, A> {
         self.find_elsewhere(rt, worker)
     }
 
+    // What is in the hands of a worker that leaves goes outside, as far as that has room.
+    fn hand_on<R: Wait>(&self, rt: &R, batch: &mut VecDeque<T, A>)
+        ensures { (put : List T) × (batch.old.items ≡ put ++ batch.new.items) }
+    {
+        if batch.is_empty() {
+            return;
+        }
+        let (_, woken) = self.board.put_all(rt, self.board.workers(), batch);
+        self.ring(woken);
+    }
+
     /// Ends the turns of this worker, whose number another thread may have from here on. What it has in its hands goes to the back of the queue for what comes from outside, as far as that has room. What it was to look for, another worker does. The answer is what there was no room for.
-    pub fn end_turns<R: Wait>(&self, rt: &R, worker: Worker<T, A>) -> VecDeque<T, A> {
+    pub fn end_turns<R: Wait>(&self, rt: &R, worker: Worker<T, A>) -> VecDeque<T, A>
+        ensures { (put : List T) × (worker.batch.items ≡ put ++ result.items) }
+    {
         let Worker {
             number: _,
             looks: _,
@@ -449,10 +483,7 @@ impl<T, A: Allocator> Crew<T, A> {
             owed,
             heard,
         } = worker;
-        if !batch.is_empty() {
-            let (_, woken) = self.board.put_all(rt, self.board.workers(), &mut batch);
-            self.ring(woken);
-        }
+        self.hand_on(rt, &mut batch);
         if let Some(look) = owed {
             bells.settle(look);
         }
@@ -476,6 +507,8 @@ impl<T, A: Allocator> Crew<T, A> {
     ) -> Option<NotDue>
         ensures owed { IsSome worker.new.owed }
         ensures heard { IsNone result → IsSome worker.new.heard }
+        ensures not_due { IfSome result (WasNotDue (arc_value worker.old.bells)) }
+        ensures batch { worker.new.batch ≡ worker.old.batch }
     {
         let owed = worker.owed.take();
         let look = match worker.bells.begin_search(owed) {

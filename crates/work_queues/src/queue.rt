@@ -104,7 +104,7 @@ impl<T, A: Allocator> Queue<T, A> {
     pub fn publish(&mut self, bells: &Bells) -> Option<Woken>
         requires { IsFlag bells.now self.old.flag × (self.old.flag.queue ≤ bells.now.workers) }
         ensures flag { IsFlag bells.now self.new.flag × (self.new.flag.queue ≡ self.old.flag.queue) }
-        ensures empty { self.new.flag.shows ≡ false → self.new.items.items ≡ [] }
+        ensures empty { self.new.flag.shows ≡ false ↔ self.new.items.items ≡ [] }
         ensures items { self.new.items ≡ self.old.items }
         ensures woken { IfSome result (λ woken. woken.worker < bells.now.workers) }
     {

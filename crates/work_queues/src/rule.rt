@@ -8,7 +8,7 @@ use crate::room::Room;
 use atomic_table::{Play, TableRule};
 use std::alloc::Allocator;
 
-/// The rule: a queue that is not locked lies in its slot, and is empty if its flag shows no item.
+/// The rule: a queue that is not locked lies in its slot, and its flag shows no item exactly if it is empty.
 #[derive(Clone, Copy)]
 pub struct Order;
 

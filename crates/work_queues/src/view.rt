@@ -18,9 +18,9 @@ pub struct View {
     pub ghost from: { ℕ },
     /// 1 where it is the searcher.
     pub ghost searching: { ℕ },
-    /// 0, or 1 where it counts as a sleeper, or one more than the word of the worker that it put to sleep.
+    /// 0, or 1 where it counts as a sleeper, or one more than the word of the worker that it put to sleep, or two more where that was interrupted.
     pub ghost asleep: { ℕ },
-    /// What it knows of the interruption: 0 nothing, or `due`, `not_due` or `taken`.
+    /// What it knows of interruptions: 0 nothing, or `due`, `not_due`, `taken` or `roused`.
     pub ghost interruption: { ℕ },
     /// One more than the word of the worker that it has interrupted, or 0.
     pub ghost interrupted: { ℕ },

@@ -1,6 +1,6 @@
 //! The looks that follow a flag, an interruption or the end of a search: for a worker that sleeps, and at the flags.
 ghost use Rattle.std.specs.Prelude.{◌≡◌, ◌+◌, ◌<◌, ℕ, ◌*◌, true, false, IfSome};
-ghost use Rattle.work_queues.specs.Sleep.{padding, owing, paid, left_of};
+ghost use Rattle.work_queues.specs.Sleep.{padding, owing, paid, left_of, sees};
 
 use super::{Bells, Look, Place, SHOWN, Seat, Woken, leave};
 use crate::watch::{EnterOwing, LookAtFlag, LookForSearcher, LookForSleepers, Settle};
@@ -41,12 +41,12 @@ impl Bells {
         None
     }
 
-    // Looks at each flag, until one shows something. Else no look is owed.
+    // Looks at each flag, until one shows something. Else no look is owed, since it has seen all.
     pub(super) fn sees_flag(&self, seat: &mut Seat) -> bool
         requires { (seat.old.table_id ≡ self.now.table.shared.table_id) × (seat.old.me ≡ (owing seat.old.me.0, seat.old.me.1)) }
         ensures id { seat.new.table_id ≡ seat.old.table_id }
         ensures some { result ≡ true → (seen : ℕ) × (seat.new.me ≡ (left_of seat.old.me.0 seen 0, seat.old.me.1)) }
-        ensures none { result ≡ false → seat.new.me ≡ (paid seat.old.me.0, seat.old.me.1) }
+        ensures none { result ≡ false → seat.new.me ≡ (sees (paid seat.old.me.0) (self.now.workers + 2), seat.old.me.1) }
     {
         for flag in 0..self.workers + 2 {
             let word = self.flag_word(flag);
@@ -75,7 +75,7 @@ impl Bells {
         woken
     }
 
-    /// Ends looks that are owed, and wakes the thread of the worker that is woken.
+    /// Ends looks that are owed, and wakes the thread of the worker that is woken. No clause says so: a `Look` ends only in `pay`, and a `Woken` in `ring`.
     pub fn settle(&self, look: Look)
         requires { look.place.seat.table_id ≡ self.now.table.shared.table_id }
     {

@@ -63,7 +63,7 @@ impl Bells {
         Some(NothingShown { seat })
     }
 
-    /// Whether the flag of a queue shows items. No seat is needed for a look that nothing is claimed of.
+    /// Whether the flag of a queue shows items. Nothing is claimed of a look that is over, so it needs no seat.
     pub fn shows(&self, queue: usize) -> bool
         requires { queue ≤ self.now.workers }
     {

@@ -1,6 +1,6 @@
 //! Interruptions: a worker looks once more, though no queue shows an item.
-ghost use Rattle.std.specs.Prelude.{◌≡◌, ◌<◌, ◌≤◌, ◌+◌, ◌↔◌, IfSome, IsNone};
-ghost use Rattle.work_queues.specs.Duties.{IsClaim, IsInterrupted};
+ghost use Rattle.std.specs.Prelude.{◌≡◌, ◌<◌, ◌≤◌, ◌+◌, ◌↔◌, IfSome, IsNone, MatchResult};
+ghost use Rattle.work_queues.specs.Duties.{IsClaim, IsInterrupted, WasDue, WasNotDue};
 
 use super::{
     ASLEEP, AWAKE, AllInterrupted, Bells, Claim, Due, HIDDEN, Heard, INTERRUPTED, Interrupted,
@@ -29,7 +29,9 @@ impl Bells {
     }
 
     /// Has one worker look once more for what is to be done, though no queue has anything: a sleeping one, if one sleeps. The interruption is due until a worker hears it.
-    pub fn interrupt(&self) -> Due {
+    pub fn interrupt(&self) -> Due
+        ensures { WasDue self.now result }
+    {
         let word = self.flag_word(self.workers + 1);
         let shared = &self.table.shared;
         let Place { mut seat } = self.enter();
@@ -44,7 +46,7 @@ impl Bells {
         Due { seat }
     }
 
-    /// Whether an interruption is due that no worker has heard.
+    /// Whether an interruption is due that no worker has heard. Nothing is claimed of a look that is over.
     pub fn is_due(&self) -> bool {
         self.table.shared.peek(self.flag_word(self.workers + 1)) == SHOWN
     }
@@ -88,13 +90,15 @@ impl Bells {
         all
     }
 
-    /// How many interruptions there were, but for those that found one due.
+    /// How many interruptions there were, but for those that found one due. The count is no word of the table, so no clause speaks of it.
     pub fn interruptions(&self) -> u64 {
         self.interruptions.load(Ordering::SeqCst)
     }
 
     // Takes the interruption that is due, if one is: the worker looks once more.
-    pub(crate) fn hear(&self) -> Result<NotDue, Heard> {
+    pub(crate) fn hear(&self) -> Result<NotDue, Heard>
+        ensures { MatchResult result (WasNotDue self.now) (λ heard. heard.place.seat.table_id ≡ self.now.table.shared.table_id) }
+    {
         let word = self.flag_word(self.workers + 1);
         let shared = &self.table.shared;
         let mut place = self.enter();
@@ -106,7 +110,7 @@ impl Bells {
         Err(Heard { place })
     }
 
-    // The worker that has heard the interruption has looked once more, which only one that goes on says.
+    // The worker that has heard the interruption has looked once more, which only one that goes on says. `Heard` ends here or in `pass_on`.
     pub(crate) fn answer(&self, heard: Heard, claim: &Claim)
         requires { IsClaim self.now claim.now }
     {
@@ -116,7 +120,9 @@ impl Bells {
     }
 
     // The worker that has heard the interruption looks no more, so another one is to.
-    pub(crate) fn pass_on(&self, heard: Heard) -> Due {
+    pub(crate) fn pass_on(&self, heard: Heard) -> Due
+        ensures { WasDue self.now result }
+    {
         let Heard { place } = heard;
         let Place { seat } = place;
         drop(seat);

@@ -1,6 +1,6 @@
 //! The search of a worker that found nothing, and its sleep.
 ghost use Rattle.std.specs.Prelude.{◌≡◌, ◌+◌, ◌*◌, ◌<◌, ◌⊎◌, [], true, false, IfSome, MatchResult};
-ghost use Rattle.work_queues.specs.Duties.{IsClaim, IsAsleep};
+ghost use Rattle.work_queues.specs.Duties.{IsClaim, IsAsleep, SawEach};
 ghost use Rattle.work_queues.specs.Sleep.{padding, owing, sleeps};
 
 use super::{ASLEEP, AWAKE, Bells, Claim, Look, MOST_SLEEPERS, Place, Search, Seat, Sleeper};
@@ -60,12 +60,12 @@ impl Bells {
         unreachable!()
     }
 
-    /// How many workers count as sleepers.
+    /// How many workers count as sleepers. Nothing is claimed of a number that is over.
     pub fn sleepers(&self) -> u64 {
         self.table.shared.peek(self.sleepers_word())
     }
 
-    /// The worker is asleep from here on, and looks at each flag before it sleeps: `sees_something`. `Err` where an interruption was meant for it, which it has heard.
+    /// The worker of this claim is asleep from here on, and looks at each flag before it sleeps: `sees_something`. `Err` where an interruption was meant for it, which it has heard.
     pub fn lie_down<R: Wait>(
         &self,
         rt: &R,
@@ -74,7 +74,7 @@ impl Bells {
     ) -> Result<Sleeper, Look>
         requires owed { IfSome owed (λ look. look.place.seat.table_id ≡ self.now.table.shared.table_id) }
         requires claim { IsClaim self.now claim.now }
-        ensures { MatchResult result (λ sleeper. IsAsleep self.now sleeper × (sleeper.place.seat.me ≡ (owing sleeper.place.seat.me.0, sleeper.place.seat.me.1))) (λ look. look.place.seat.table_id ≡ self.now.table.shared.table_id) }
+        ensures { MatchResult result (λ sleeper. IsAsleep self.now sleeper × (sleeper.worker ≡ claim.now.number) × (sleeper.place.seat.me ≡ (owing sleeper.place.seat.me.0, sleeper.place.seat.me.1))) (λ look. look.place.seat.table_id ≡ self.now.table.shared.table_id) }
     {
         let Look { mut place } = self.look_of(owed);
         if !self.count(rt, &mut place.seat) {
@@ -89,11 +89,11 @@ impl Bells {
         Err(self.rise(place, worker))
     }
 
-    // The worker is awake, and counts as no sleeper. It looks once more.
+    // The worker that this seat put to sleep, or found interrupted, is awake, and counts as no sleeper. It looks once more.
     fn rise(&self, mut place: Place, worker: usize) -> Look
         requires at { (place.seat.table_id ≡ self.now.table.shared.table_id) × (worker < self.now.workers) }
         requires seat { (place.seat.me.1 ≡ []) × (place.seat.me.0.right ≡ 0) × (place.seat.me.0.value ≡ 0) × (place.seat.me.0.searching ≡ 0) × (place.seat.me.0.interruption ≡ 0) × (place.seat.me.0.interrupted ≡ 0) }
-        requires asleep { (place.seat.me.0.asleep ≡ 1) ⊎ (place.seat.me.0.asleep ≡ padding * (self.now.workers + 2 + worker) + 1) }
+        requires asleep { (place.seat.me.0.asleep ≡ padding * (self.now.workers + 2 + worker) + 1) ⊎ (place.seat.me.0.asleep ≡ padding * (self.now.workers + 2 + worker) + 2) }
         ensures { result.place.seat.table_id ≡ self.now.table.shared.table_id }
     {
         let word = self.worker_word(worker);
@@ -111,12 +111,13 @@ impl Bells {
     pub fn sees_something(&self, sleeper: &mut Sleeper) -> bool
         requires { IsAsleep self.now sleeper.old × (sleeper.old.place.seat.me ≡ (owing sleeper.old.place.seat.me.0, sleeper.old.place.seat.me.1)) }
         ensures same { IsAsleep self.now sleeper.new }
-        ensures none { result ≡ false → sleeper.new.place.seat.me.0.owes ≡ 0 }
+        ensures worker { sleeper.new.worker ≡ sleeper.old.worker }
+        ensures none { result ≡ false → SawEach self.now sleeper.new }
     {
         self.sees_flag(&mut sleeper.place.seat)
     }
 
-    /// Sleeps until the worker is woken, or for so long. Only a worker that owes no look may call it. It may also return for no reason.
+    /// Sleeps until the worker is woken, or for so long. Only a worker that owes no look may call it. It may also return for no reason: the kernel's call, which this is, promises nothing.
     pub fn sleep<R: Wait>(&self, rt: &R, sleeper: &Sleeper, most: Option<Duration>)
         requires { IsAsleep self.now sleeper.now × (sleeper.now.place.seat.me.0.owes ≡ 0) }
     {

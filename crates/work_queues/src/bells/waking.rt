@@ -1,6 +1,6 @@
 //! The steps that wake a worker which sleeps. Only they make a `Woken`, and only `ring` ends it.
 ghost use Rattle.std.specs.Prelude.{◌≡◌, ◌+◌, ◌*◌, ◌<◌, IfSome, IsNone};
-ghost use Rattle.work_queues.specs.Sleep.{padding, interrupts, left_of, paid};
+ghost use Rattle.work_queues.specs.Sleep.{padding, interrupts, knows, left_of, paid, roused};
 
 use super::{ASLEEP, Bells, Seat, WOKEN};
 use crate::watch::{LookAtWorker, Rouse, Wake};
@@ -41,22 +41,18 @@ impl Bells {
     pub(super) fn rouse(&self, seat: &mut Seat, worker: usize) -> Option<Woken>
         requires { (seat.old.table_id ≡ self.now.table.shared.table_id) × (worker < self.now.workers) }
         ensures id { seat.new.table_id ≡ seat.old.table_id }
-        ensures woken { IfSome result (λ woken. woken.worker ≡ worker) }
-        ensures roused { seat.new.me ≡ (interrupts seat.old.me.0 (padding * (self.now.workers + 2 + worker)), seat.old.me.1) }
+        ensures woken { IfSome result (λ woken. (woken.worker ≡ worker) × (seat.new.me ≡ (knows (interrupts seat.old.me.0 (padding * (self.now.workers + 2 + worker))) roused, seat.old.me.1))) }
+        ensures awake { IsNone result → seat.new.me ≡ (interrupts seat.old.me.0 (padding * (self.now.workers + 2 + worker)), seat.old.me.1) }
     {
         let word = self.worker_word(worker);
-        if self
-            .table
-            .shared
-            .compare_exchange::<Rouse>(seat, word, ASLEEP, WOKEN)
-            == ASLEEP
-        {
+        let shared = &self.table.shared;
+        if shared.compare_exchange::<Rouse>(seat, word, ASLEEP, WOKEN) == ASLEEP {
             return Some(Woken { worker });
         }
         None
     }
 
-    /// Wakes the thread of a worker that a step has woken.
+    /// Wakes the thread of a worker that a step has woken. It is one call of the kernel, of which nothing is claimed.
     pub fn ring(&self, woken: Woken)
         requires { woken.worker < self.now.workers }
     {

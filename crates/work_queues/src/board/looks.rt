@@ -1,4 +1,4 @@
-//! What the flags of the queues show, for a worker that looks for items. Nothing is claimed of these looks.
+//! What the flags of the queues show, for a worker that looks for items. Nothing is claimed of these looks, which are over as they are answered.
 ghost use Rattle.std.specs.Prelude.{◌≤◌};
 ghost use Rattle.std.specs.Arc.{arc_value};
 

@@ -57,7 +57,7 @@ impl<T, A: Allocator> Board<T, A> {
         (self.unlock(visit, queue), woken)
     }
 
-    /// Unlocks the queue, to which nothing is added.
+    /// Unlocks the queue, to which nothing is added. `Reserved` has no other end but `put`, so this needs no clause.
     pub fn release(&self, reserved: Reserved<T, A>)
         requires { HasRoom self.now reserved }
     {
@@ -86,7 +86,7 @@ impl<T, A: Allocator> Board<T, A> {
         all
     }
 
-    /// How many items a queue has.
+    /// How many items a queue has. Nothing is claimed of a number that is over as it is answered.
     pub fn len<R: Wait>(&self, rt: &R, queue: usize) -> usize
         requires { queue ≤ (arc_value self.now.bells).workers }
     {

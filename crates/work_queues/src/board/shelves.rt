@@ -1,5 +1,5 @@
 //! The queues of a board, each under a lock of its own.
-ghost use Rattle.std.specs.Prelude.{◌≡◌, ◌≢◌, ℕ, ◌+◌, ◌*◌, ◌<◌, ◌≤◌, [], ◌∷◌, IfOk, IfErr, IfSome, OnOk, length, slice_index};
+ghost use Rattle.std.specs.Prelude.{◌≡◌, ◌≢◌, ℕ, ◌+◌, ◌*◌, ◌<◌, ◌≤◌, ◌++◌, List, [], ◌∷◌, IfOk, IfErr, IfSome, OnOk, length, slice_index};
 ghost use Rattle.std.specs.Arc.{arc_value};
 ghost use Rattle.std.specs.VecDeque.{deque_capacity};
 ghost use mathlib.Core.Option.{some};
@@ -64,7 +64,7 @@ impl<T, A: Allocator> Board<T, A> {
         self.bells.workers()
     }
 
-    /// Wakes the thread of a worker that a call of this board has answered.
+    /// Wakes the thread of a worker that a call of this board has answered: `Bells::ring`.
     pub fn ring(&self, woken: Woken)
         requires { woken.worker < (arc_value self.now.bells).workers }
     {
@@ -94,7 +94,7 @@ impl<T, A: Allocator> Board<T, A> {
         }
     }
 
-    /// Takes the item at the front of a queue, if it has one, and the worker that is to be woken for what is left.
+    /// Takes the item at the front of a queue, if it has one, and the worker that is to be woken for what is left. An item does not tell where it was, so no clause does: `Queue::pop` has it.
     pub fn pop<R: Wait>(&self, rt: &R, queue: usize) -> (Option<T>, Option<Woken>)
         requires { queue ≤ (arc_value self.now.bells).workers }
         ensures { IfSome result.1 (λ woken. woken.worker < (arc_value self.now.bells).workers) }
@@ -115,7 +115,8 @@ impl<T, A: Allocator> Board<T, A> {
         batch: &mut VecDeque<T, A>,
     ) -> Option<Woken>
         requires { queue ≤ (arc_value self.now.bells).workers }
-        ensures { IfSome result (λ woken. woken.worker < (arc_value self.now.bells).workers) }
+        ensures taken { (taken : List T) × (batch.new.items ≡ batch.old.items ++ taken) }
+        ensures woken { IfSome result (λ woken. woken.worker < (arc_value self.now.bells).workers) }
     {
         let mut visit = self.lock(rt, queue);
         let held = visit.seat.slot_mut(&self.table.shared, queue);
@@ -135,6 +136,7 @@ impl<T, A: Allocator> Board<T, A> {
         requires { queue ≤ (arc_value self.now.bells).workers }
         ensures queue { IfOk result.0 (λ visited. visited.queue ≡ queue) }
         ensures all { OnOk result.0 (batch.new.items ≡ []) }
+        ensures put { (put : List T) × (batch.old.items ≡ put ++ batch.new.items) }
         ensures woken { IfSome result.1 (λ woken. woken.worker < (arc_value self.now.bells).workers) }
     {
         let mut visit = self.lock(rt, queue);

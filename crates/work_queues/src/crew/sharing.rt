@@ -30,7 +30,7 @@ impl<T, A: Allocator> Crew<T, A> {
         visited
     }
 
-    /// Gives room back to which nothing came.
+    /// Gives room back to which nothing came: `Board::release`.
     pub fn release(&self, reserved: Reserved<T, A>)
         requires { HasRoom self.now.board reserved }
     {
@@ -44,7 +44,7 @@ impl<T, A: Allocator> Crew<T, A> {
         self.board.visit_all(rt)
     }
 
-    /// How many items the queues have, each counted while it is locked: none of those in the hands of workers.
+    /// How many items the queues have, each counted while it is locked: none of those in the hands of workers. Nothing is claimed of a number that is over as it is answered.
     pub fn len<R: Wait>(&self, rt: &R) -> usize {
         let mut items = 0usize;
         for queue in 0..self.board.workers() + 1 {
