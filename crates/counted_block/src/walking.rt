@@ -66,7 +66,11 @@ impl<S, W, V, K, P: BlockRule<S, W, V, K>, T, A: Allocator> Share<S, W, V, K, P,
     }
 
     /// Keeps the bits of `k` in the word. Answers the word as it was.
-    pub fn fetch_and<M: BlockPlay<Place<S, W>, V, K>>(&self, seat: &mut Seat<S, W, V>, k: u64) -> u64
+    pub fn fetch_and<M: BlockPlay<Place<S, W>, V, K>>(
+        &self,
+        seat: &mut Seat<S, W, V>,
+        k: u64,
+    ) -> u64
         requires block { seat.old.block ≡ self.now.id }
         requires allowed { Allows (P.holds self.now.key) 2 seat.old.id seat.old.me 0 (λ n. bit_and n k) (M.then self.now.key (step 2 0 k 0 none) seat.old.me) }
         requires shares { Same (P.holds self.now.key) P.out seat.old.id seat.old.me.0 (λ n. bit_and n k) }

@@ -53,10 +53,12 @@ pub struct Attempting<P: Change> {
     change: P,
 }
 
-impl<F: Yields, A, P: Change> BlockPlay<TaskPlace<F, Kept<F>, A>, View, Terms<F>> for Attempting<P> {
+impl<F: Yields, A, P: Change> BlockPlay<TaskPlace<F, Kept<F>, A>, View, Terms<F>>
+    for Attempting<P> {
     ghost then = { λ terms. attempted (values_of F.Yields terms.future.value) P.attempt };
 }
 
-impl<F: Yields, A, P: Change> CountPlay<TaskPlace<F, Kept<F>, A>, View, Terms<F>> for Attempting<P> {
+impl<F: Yields, A, P: Change> CountPlay<TaskPlace<F, Kept<F>, A>, View, Terms<F>>
+    for Attempting<P> {
     ghost counts = { counted (counts_on P.attempt) };
 }

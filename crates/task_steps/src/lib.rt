@@ -22,9 +22,8 @@ pub mod witness;
 ghost use Rattle.task_steps.specs.Left.{EmptyAtClose};
 ghost use Rattle.task_steps.specs.Values.{values_of};
 
-use task_core::Yields;
-
 pub use script::Knowing;
+use task_core::Yields;
 
 /// Wherever the rule of a cell's table holds, and a party has emptied the places, as who closes the last share has, nothing lies there: neither future, nor output, nor awaiter.
 pub fn laws<F: Yields, A>()

@@ -92,8 +92,15 @@ pub type TaskPlace<F, T, A> = Place<Slot<F, T>, Option<A>>;
 pub type Block<F, A, V, B> = Share<Slot<F, Kept<F>>, Option<A>, View, Terms<F>, Law, V, B>;
 
 /// A share that a step may have made or left.
-pub type MaybeBlock<F, A, V, B> =
-    MaybeShare<Slot<F, Kept<F>>, Option<A>, View, Terms<F>, Law, V, B>;
+pub type MaybeBlock<F, A, V, B> = MaybeShare<
+    Slot<F, Kept<F>>,
+    Option<A>,
+    View,
+    Terms<F>,
+    Law,
+    V,
+    B,
+>;
 
 /// A hold of a task's block.
 pub type BlockHold<F, A, V, B> = Hold<Slot<F, Kept<F>>, Option<A>, View, Terms<F>, Law, V, B>;
@@ -150,7 +157,11 @@ impl<F: Yields, A: Drop, V: Drop, B: Allocator> Laid<F, Kept<F>, A, V, B> {
         self,
         limit: u64,
         future: F,
-    ) -> (Block<F, A, V, B>, Block<F, A, V, B>, TaskSeat<F, Kept<F>, A>)
+    ) -> (
+        Block<F, A, V, B>,
+        Block<F, A, V, B>,
+        TaskSeat<F, Kept<F>, A>,
+    )
         requires { limit < 2 ^ 55 }
         ensures share { (result.0.key.limit ≡ limit) × (result.0.key.future.value ≡ future) × (result.0.value ≡ self.whole.value.value) × (result.0.heap ≡ self.whole.alloc) }
         ensures other { (result.1.id ≡ result.0.id) × (result.1.key ≡ result.0.key) × (result.1.value ≡ result.0.value) × (result.1.heap ≡ result.0.heap) }

@@ -25,13 +25,7 @@ impl<R: Drop, F: Yields, Q: Drop, M: Drop, A: Drop, B: Allocator + Copy> LaidCel
     B,
 > {
     /// Finds the memory of a task; or hands back what was given, where memory was refused. `limit` is the limit of references.
-    pub fn make(
-        rt: R,
-        alloc: B,
-        schedule: Q,
-        metadata: M,
-        limit: u64,
-    ) -> Result<Self, (Q, M)>
+    pub fn make(rt: R, alloc: B, schedule: Q, metadata: M, limit: u64) -> Result<Self, (Q, M)>
         requires { limit < 2 ^ 55 }
         ensures given { IfOk result (λ made. let cell = made.laid.whole.value.value in (cell.metadata ≡ metadata) × (cell.schedule ≡ schedule) × (cell.limit ≡ limit)) }
         ensures refused { IfErr result (λ back. (back.0 ≡ schedule) × (back.1 ≡ metadata)) }

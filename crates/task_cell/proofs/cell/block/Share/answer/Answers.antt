@@ -11,9 +11,9 @@ take_output-output-requires-clause-party g c = let p = c.args.party.now in let q
 
 pub returns-in-Ok : goal.returns-in-Ok
 returns-in-Ok g c = let p = c.args.party.now in let q = c.look_again.new.party in let w = c.in-Ok.found in let t = c.take_output-output.ensures.path in record {
-      path = answers_output g.A.Wake.cloned g.A.Wake.woken g.A.Wake.woken_by_ref g.A.Wake.compared c.args.awaiter.now.awaiter.now w c.hand_out.result t.0 p q c.take_output-output.new.party (seen_again p q (Ok w) c.in-Ok.ensures) t.1 t.2;
-      yielded = subst (λ k. HasYielded c.args.self.now k.output) (sym c.hand_out.ensures) c.take_output-output.ensures.yielded;
-    }
+  path = answers_output g.A.Wake.cloned g.A.Wake.woken g.A.Wake.woken_by_ref g.A.Wake.compared c.args.awaiter.now.awaiter.now w c.hand_out.result t.0 p q c.take_output-output.new.party (seen_again p q (Ok w) c.in-Ok.ensures) t.1 t.2;
+  yielded = subst (λ k. HasYielded c.args.self.now k.output) (sym c.hand_out.ensures) c.take_output-output.ensures.yielded;
+}
 
 pub returns-then-has_to_wait : goal.returns-then-has_to_wait
 returns-then-has_to_wait g c = let p = c.args.party.now in let q = c.look_again.new.party in let w = c.in-Err.found in let e = sym c.has_to_wait.ensures ∙ c.if-has_to_wait.true in

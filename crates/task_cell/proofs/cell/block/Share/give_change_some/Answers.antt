@@ -9,4 +9,4 @@ pub give_some-requires-clause-shares : goal.give_some-requires-clause-shares
 give_some-requires-clause-shares g c = let e = c.in-Ok.ensures in give_still _ _ _ _ _ _ g.P.Change.attempt c.in-Ok.word refl e.seat.1 e.again.1 c.requires.shares
 
 pub returns-in-Ok-clause-missed : goal.returns-in-Ok-clause-missed
-returns-in-Ok-clause-missed g c = misses_from (IsUndecided c.args.self.block.key g.P.Change.attempt) c.args.tries c.give_some.result c.args.party.now.seat.me c.observe.new.party.seat.me c.give_some.new.party.seat.me c.in-Ok.word c.requires.quiet c.in-Ok.ensures.found.1 c.give_some.ensures.looked
+returns-in-Ok-clause-missed g c = misses_from (IsUndecided c.args.self.block.key.limit g.P.Change.attempt) c.args.tries c.give_some.result c.args.party.now.seat.me c.observe.new.party.seat.me c.give_some.new.party.seat.me c.in-Ok.word c.requires.quiet c.in-Ok.ensures.found.1 c.give_some.ensures.looked

@@ -37,7 +37,7 @@ pub returns-in-Ended-clause-share : goal.returns-in-Ended-clause-share
 returns-in-Ended-clause-share g c = let i = c.loop-round.invariant in let e = c.in-Ended.ensures.share in (e.0 ∙ i.same.0, e.1 ∙ i.same.1, e.2 ∙ i.same.2)
 
 pub returns-then-bits-clause-looked : goal.returns-then-bits-clause-looked
-returns-then-bits-clause-looked g c = inr (subst (λ l. IsUndecided l g.P.Change.attempt c.in-Again.found) c.loop-round.invariant.same.2
+returns-then-bits-clause-looked g c = inr (subst (λ k. IsUndecided k.limit g.P.Change.attempt c.in-Again.found) c.loop-round.invariant.same.2
     (undecided g.P.Change.attempt _ c.loop-round.word c.in-Again.found (sym c.bits.ensures ∙ (c.if-bits.true ∙ c.bits-in-Again.ensures)) c.in-Again.ensures.again.1))
 
 pub loop-round-preserved : goal.loop-round-preserved

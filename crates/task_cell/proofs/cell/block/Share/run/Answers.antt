@@ -57,9 +57,12 @@ pub end_pending_run-requires-clause-room : goal.end_pending_run-requires-clause-
 end_pending_run-requires-clause-room g c = (noted_pending _ _ _ _ _ c.poll_future-share.ensures.once.3 c.in-Pending.is).0
 
 pub end_pending_run-requires-clause-party : goal.end_pending_run-requires-clause-party
-end_pending_run-requires-clause-party g c = let p = c.poll_future-share.ensures in
-    (c.begin_run-party.result.0, Future p.once.1, (noted_pending _ _ _ _ _ p.once.3 c.in-Pending.is).1,
-    subst (λ s. IsContinued s p.once.1) (sym p.share) (polled p.once.0 p.once.1 p.once.5 (subst (λ answer. g.F.Yields.moves p.once.0 answer p.once.1) c.in-Pending.is p.once.6)))
+end_pending_run-requires-clause-party g c = let p = c.poll_future-share.ensures in (
+  c.begin_run-party.result.0,
+  Future p.once.1,
+  (noted_pending _ _ _ _ _ p.once.3 c.in-Pending.is).1,
+  subst (λ s. IsContinued s p.once.1) (sym p.share) (polled p.once.0 p.once.1 p.once.5 (subst (λ answer. g.F.Yields.moves p.once.0 answer p.once.1) c.in-Pending.is p.once.6)),
+)
 
 pub returns-in-Pending : goal.returns-in-Pending
 returns-in-Pending g c = let s = started c.args.party c.begin_run-party.result.0 c.begin_run-party.result.1 c.begin_run-party.ensures c.if-not-started.false in let p = c.poll_future-share.ensures in

@@ -40,7 +40,7 @@ returns-clause-tried g c = let s = c.requires.seen in let e = c.gain_at-found.en
 
 pub returns-in-Ok-clause-again : goal.returns-in-Ok-clause-again
 returns-in-Ok-clause-again g c = let self = c.args.self.now in let limit = ap (λ x. x.limit) c.cell.ensures ∙ sym self.fitting.0 in let e = c.in-Ok.ensures.found in
-    (e.1, other_or_undecided g.P.Change.attempt _ self.block.key c.args.word c.in-Ok.found (sym c.in_default.is ∙ c.next.ensures) limit e.0)
+    (e.1, other_or_undecided g.P.Change.attempt _ self.block.key.limit c.args.word c.in-Ok.found (sym c.in_default.is ∙ c.next.ensures) limit e.0)
 
 pub returns-clause-again : goal.returns-clause-again
 returns-clause-again g c = let e = c.gain_at-found.ensures.seat.2 in (
