@@ -1,6 +1,7 @@
 //! Spawning into a pool: room in the queue comes first, so that a refusal has back what it was given.
 ghost use Rattle.std.specs.Prelude.{◌≡◌, ◌-◌, ◌+◌, ◌<◌, [], drop, IfOk, IfErr, IsSome, IsNone, OnOk, vec_len, vec_capacity};
 ghost use Rattle.std.specs.Fn.{FnOnceReturnsAt};
+ghost use Rattle.task_cell.specs.Belongs.{spawned_in};
 ghost use Rattle.work_queues.specs.Rooms.{HasRoom};
 ghost use Rattle.executor.specs.Appends.{Appends};
 
@@ -16,6 +17,7 @@ use work_queues::board::Reserved;
 impl<R: Wait + Drop + Copy, F: Yields, A: Wake, B: Allocator + Copy> Pool<R, F, A, B> {
     /// Spawns a task from a thread that is no worker, and schedules it. An error has the future back, and says why: there was no memory for the task or for its place in the queue, or the pool takes no more tasks. After `Ok` its Runnable was queued.
     pub fn spawn(&self, future: F) -> Result<PoolTask<'_, R, F, A, B>, PoolSpawnError<F>>
+        ensures spawned { IfOk result (λ task. spawned_in task.inner.share ≡ future) }
         ensures refused { IfErr result (λ error. error.given ≡ future) }
     {
         self.spawn_on(self.crew.workers(), future)
@@ -28,6 +30,7 @@ impl<R: Wait + Drop + Copy, F: Yields, A: Wake, B: Allocator + Copy> Pool<R, F, 
         future: F,
     ) -> Result<PoolTask<'_, R, F, A, B>, PoolSpawnError<F>>
         ensures place { IfOk result (λ task. task.around.1 ≡ worker) }
+        ensures spawned { IfOk result (λ task. spawned_in task.inner.share ≡ future) }
         ensures refused { IfErr result (λ error. error.given ≡ future) }
     {
         let reserved = match self.reserve(worker) {

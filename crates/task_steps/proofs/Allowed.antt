@@ -1,18 +1,17 @@
 -- The steps of the table that a party may make: what each owes is one obligation on the machine that it finds.
-use Rattle.std.proofs.Common.{◌≡◌, ℕ, suc, ◌<◌, ◌≢◌, Bool, true, false, Option, Some, None, List, ◌∷◌, ◌++◌, length, map, get_or, set, sym, ap, ◌∙◌, subst, inl, inr, refl, ⊎_elim, arith, length-set, get_or-set_same}
-use mathlib.Core.Option.{some, some-injective}
-use mathlib.Core.Option as maybe
+use Rattle.std.proofs.Common.{◌≡◌, ℕ, suc, ◌<◌, true, Option, Some, None, List, ◌∷◌, ◌++◌, length, map, get_or, set, sym, ap, ◌∙◌, subst, refl, arith, length-set, get_or-set_same}
+use mathlib.Core.Option.{some}
 use lib.ListN.{get_elem?}
-use Rattle.atomic_table.specs.Table.{State as Board, Me, Act as Move, keeps, stepped, homes_after, carried_after, Allows}
+use Rattle.atomic_table.specs.Table.{State as Board, Me, Act as Move, keeps, stepped, carried_after, Allows}
 use Rattle.atomic_table.proofs.Lists as lists
-use Rattle.task_steps.proofs.Vocabulary.{State, state_of, number_of, Position, At, Runnable, Act, Outcome, Machine, scene, how_many, owns_awaiter, state_of_number_of, laws_of, TaskPlace, Deed, Tries, Member, View}
+use Rattle.task_steps.proofs.Vocabulary.{State, state_of, number_of, Position, Act, Outcome, Machine, scene, owns_awaiter, state_of_number_of, laws_of, TaskPlace, Deed, Tries, Member, View}
 use Rattle.task_steps.specs.Values.{Values}
-use Rattle.task_steps.specs.Rule.{member, trying, view, fresh, Entry, Explains, has_work, Running, RuleHolds}
+use Rattle.task_steps.specs.Rule.{member, trying, view, fresh, Explains, has_work, Running, RuleHolds}
 use Rattle.task_steps.specs.Attempt.{Attempt, word_after, acts_on}
 use Rattle.task_steps.specs.Steps.{head_of, leaves_by, all_fit, noted, acted, next_of, born_of, Carried, Makes}
 use Rattle.task_steps.proofs.Explains.{inside}
 use Rattle.task_steps.proofs.Numbers.{same_word}
-use Rattle.task_steps.proofs.Facts.{law, is_clear, many_at, queued, one_work}
+use Rattle.task_steps.proofs.Facts.{law, many_at, one_work}
 use Rattle.task_steps.proofs.Acts.{leads, leads_leave, leads_fit, follows}
 use Rattle.task_steps.proofs.Seen.{over_stays, closed_stays, ended_stays}
 use Rattle.task_steps.proofs.Advance.{Steps, keeps_places, places_before, places_after, Finds, Result, After, places, stays_put}

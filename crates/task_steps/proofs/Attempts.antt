@@ -1,5 +1,5 @@
 -- What an attempt owes: each load and each exchange of it keeps the rule, and each miss has met a write.
-use Rattle.std.proofs.Common.{◌≡◌, ◌≢◌, ℕ, ◌<◌, Bool, not, true, false, Option, Some, None, List, [], ◌∷◌, length, get_or, set, set-set, sym, refl, ap, ◌∙◌, subst, ⊎_elim, arith, eq-eqb}
+use Rattle.std.proofs.Common.{◌≡◌, ℕ, ◌<◌, Bool, not, true, false, Option, Some, None, List, [], ◌∷◌, length, get_or, set, set-set, sym, refl, ap, ◌∙◌, subst, arith, eq-eqb}
 use mathlib.Core.Option.{none, some}
 use lib.ListN.{get_elem?}
 use Rattle.atomic_table.specs.Table.{State as Board, Me, keeps, step, homes_after, carried_after}

@@ -9,8 +9,7 @@ use Rattle.task_core.specs.Word.{State, bit}
 use Rattle.task_core.specs.declared.acts.Act.{Act}
 use Rattle.task_core.specs.declared.acts.Act.TheVariants.{EmptySlots}
 use Rattle.task_laws.specs.declared.positions.Position.{Position}
-use Rattle.task_laws.specs.declared.positions.Position.TheVariants.{At, Emptier}
-use Rattle.task_laws.specs.declared.positions.Rest.TheVariants.{Runnable}
+use Rattle.task_laws.specs.declared.positions.Position.TheVariants.{Emptier}
 use Rattle.task_laws.specs.Event.{Event}
 use Rattle.task_laws.specs.Event as event
 use Rattle.task_laws.specs.Holders.{owns_awaiter}
@@ -28,7 +27,7 @@ use Rattle.task_steps.specs.Rule.{TaskPlace, Entry, Reaches, noted_if, deeds_of,
 use Rattle.task_steps.specs.Shares.{is_emptying, has_emptied}
 use Rattle.task_steps.specs.Left.{EmptyAtClose, NothingLies}
 use Rattle.task_steps.proofs.Explains.{next_machine}
-use Rattle.task_steps.proofs.Facts.{law, works, counted}
+use Rattle.task_steps.proofs.Facts.{law, works}
 
 -- a step, taken apart
 record Moved (n m : Machine) (k : ℕ) (act : Act) : Type 0 where

@@ -1,15 +1,14 @@
 -- A seat comes to the table with a waker that is lent to it.
-use Rattle.std.proofs.Common.{◌≡◌, ℕ, ◌+◌, subst, Bool, List, [], ◌∷◌, ◌++◌, length, sym, refl, ap, ◌∙◌, ⊎_elim, arith}
+use Rattle.std.proofs.Common.{◌≡◌, ℕ, subst, List, [], ◌∷◌, ◌++◌, length, sym, refl, ap, ◌∙◌, arith}
 use mathlib.Core.Option.{some}
 use lib.ListN.{get_elem?}
 use Rattle.atomic_table.specs.Table.{State as Board, Me, Enters}
-use Rattle.atomic_table.proofs.Lists.{at_longer}
 use Rattle.task_steps.proofs.Vocabulary.{CallEnds, Nothing, At, Lent, Look, Outcome, leaves_slots, Machine, scene, owns_awaiter, TaskPlace, View, state_of, state_of_number_of}
 use Rattle.task_steps.specs.Values.{Values}
 use Rattle.task_steps.specs.Rule.{deed, view, fresh, found_by, lender, has_work, HomesAgree, RuleHolds}
-use Rattle.task_steps.proofs.Explains.{next_machine, at_append, joined_by}
+use Rattle.task_steps.proofs.Explains.{next_machine, joined_by}
 use Rattle.task_steps.proofs.Facts.{law, low, many_next}
-use Rattle.task_steps.proofs.Seats.{just, retold}
+use Rattle.task_steps.proofs.Seats.{retold}
 use Rattle.task_core.specs.Word.{HasRoom}
 
 -- the lender stays at rest, and adds a lent waker

@@ -1,9 +1,9 @@
 -- The rule of a table that was just made: the machine stands at its opening, and the future lies in its place.
-use Rattle.std.proofs.Common.{◌≡◌, ℕ, zero, suc, ◌<◌, ◌≢◌, None, List, [], ◌∷◌, sym, refl, ap, ◌∙◌, subst, arith}
+use Rattle.std.proofs.Common.{◌≡◌, ℕ, zero, suc, ◌<◌, ◌≢◌, None, [], ◌∷◌, sym, refl, ap, ◌∙◌, subst, arith}
 use mathlib.Core.Option.{some, some-injective, some-ne-none}
 use lib.ListN.{get_elem?}
 use Rattle.atomic_table.specs.Table.{opening}
-use Rattle.task_steps.proofs.Vocabulary.{At, Runnable, Task, First, Second, TaskPlace, Future, Member, View}
+use Rattle.task_steps.proofs.Vocabulary.{At, Runnable, Task, First, Second, Future, Member, View}
 use Rattle.task_laws.specs.Machine.{opening as opening_machine}
 use Rattle.task_steps.specs.Values.{Values}
 use Rattle.task_steps.specs.Rule.{fresh, opening_view, lender, DidLast, Tried, Explains, RuleHolds}

@@ -4,7 +4,7 @@ use mathlib.Core.Option.{some, some-injective, some-ne-none}
 use native.Mathlib.Decide.{ℕ_discrete}
 use lib.ListN.{get_elem?}
 use Rattle.atomic_table.specs.Table.{State as Board, Splits}
-use Rattle.atomic_table.proofs.Lists.{at_set, set_here, set_else, set_again, at_longer}
+use Rattle.atomic_table.proofs.Lists.{at_set, set_here, set_else, set_again}
 use Rattle.task_steps.proofs.Vocabulary.{number_of, Event, HandedOver, Position, OnceDelivered, At, Deliverer, CallEnding, Runnable, Ended, HandOver, ThenEnds, ThenTask, ThenNotifies, Nothing, Outcome, leaves_slots, after_handing_over, Machine, scene, owns_awaiter, laws_of, TaskPlace, Deed, Member}
 use Rattle.task_steps.proofs.Vocabulary.{View}
 use Rattle.task_steps.specs.Values.{Values}

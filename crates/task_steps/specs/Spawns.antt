@@ -1,5 +1,5 @@
 -- The seats of a spawn: the Runnable and the Task are one at first.
-use Rattle.std.specs.Prelude.{ℕ, [], ◌∷◌}
+use Rattle.std.specs.Prelude.{[], ◌∷◌}
 use Rattle.task_laws.specs.declared.positions.Position.TheVariants.{At}
 use Rattle.task_laws.specs.declared.positions.Rest.TheVariants.{Runnable, Task}
 use Rattle.task_steps.specs.declared.table.View.{View}
