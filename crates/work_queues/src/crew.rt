@@ -304,7 +304,7 @@ impl<T, A: Allocator> Crew<T, A> {
         pushed
     }
 
-    /// Takes the item at the front of a worker's queue, or, where there is no worker of this number, of the queue for what comes from outside. `None` where it is empty. No clause says which queue, as none of `Board::pop` does.
+    /// Takes the item at the front of a worker's queue, or, where there is no worker of this number, of the queue for what comes from outside. `None` where it is empty. As of `Board::pop`, no clause says which queue.
     pub fn pop<R: Wait>(&self, rt: &R, queue: usize) -> Option<T> {
         let queue = queue.min(self.board.workers());
         if self.board.is_empty(queue) {

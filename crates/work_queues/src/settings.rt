@@ -24,7 +24,9 @@ pub struct Settings {
 }
 
 impl Default for Settings {
-    fn default() -> Settings {
+    fn default() -> Settings
+        ensures { (result.room ≡ 64) × (result.batch ≡ 256) × (result.outside_every ≡ 61) × (result.search_looks ≡ 2048) }
+    {
         Settings::new()
     }
 }
