@@ -2,6 +2,7 @@
 use Rattle.std.specs.declared.alloc.Global.{Global}
 use Rattle.std.specs.Prelude.{◌≡◌, ℕ, true, Option, Some, None}
 use Rattle.counted_block.specs.Blocks.{BlockId}
+use Rattle.task_cell.specs.Calls.{limit_of}
 use Rattle.task_cell.specs.declared.cell.Cell.{Cell}
 use Rattle.task_exports.specs.declared.hand.Hand.{Hand}
 use Rattle.task_exports.specs.declared.hand.Record.{Record}
@@ -35,3 +36,7 @@ Stays x y = (y.share.maybe.there ≡ true) × (cell_in y ≡ cell_in x) × (limi
 -- .. and lies in the place as before
 abbrev pub Keeps : Handle → Handle → Type 0
 Keeps h k = (k.there ≡ true) × (k.hand.share.maybe.there ≡ true) × (cell_in k.hand ≡ cell_in h.hand) × (limit_at k.hand ≡ limit_at h.hand)
+
+-- the party is one of the cell whose share lies in the place
+abbrev pub IsAt : CellParty → Handle → Type 0
+IsAt p k = (k.there ≡ true) × (k.hand.share.maybe.there ≡ true) × (p.seat.block ≡ k.hand.share.maybe.id) × (limit_of p ≡ limit_at k.hand)

@@ -1,5 +1,5 @@
 //! What a caller does between the exports of its calls.
-ghost use Rattle.std.specs.Prelude.{◌≡◌, Bool, false};
+ghost use Rattle.std.specs.Prelude.{◌≡◌, Bool, Some, false};
 ghost use Rattle.task_cell.specs.Calls.{Stands};
 ghost use Rattle.task_core.specs.declared.acts.Act.{Act};
 ghost use Rattle.task_core.specs.declared.acts.Act.TheVariants.{DropFuture, DropOutput, HandOutOutput, StoreAwaiter, StoreOutput};
@@ -23,6 +23,9 @@ pub trait Caller<A: Wake> {
 
     // Such an act was done in the place of the future and the output, or in that of the awaiter.
     ghost did: { Act → Type 0 };
+
+    // This is the awaiter that was put into its place last.
+    ghost put: { Self → A → Type 0 };
 
     /// Polls the future, with a waker that is lent for it, whose bits are those of the handle at `h`. `polled` holds of the call.
     fn poll(&mut self, h: &mut Handle) -> Poll<Self::Output>
@@ -52,7 +55,12 @@ pub trait Caller<A: Wake> {
 
     /// Puts an awaiter into its place, and drops what lay there.
     fn store_awaiter(&mut self, awaiter: A)
-        ensures fact { did StoreAwaiter };
+        ensures fact { did StoreAwaiter }
+        ensures put { put self.new awaiter };
+
+    /// Empties the awaiter's place, which this call has had since it put an awaiter there: that is what lay there.
+    fn take_back(&mut self) -> Option<A>
+        ensures put { (a : A) → put self.old a → result ≡ Some a };
 
     /// Hands the Runnable at this place to the schedule function, and tells it whether the task was woken while it ran. `scheduled` holds of the call.
     fn schedule(&mut self, runnable: &mut Handle, woken_while_running: bool)
