@@ -1,20 +1,19 @@
 -- What the looks of a poll come to, and what follows them.
 use Rattle.task_cell.proofs.Vocabulary.{work_first, awaiter_first}
-use Rattle.std.proofs.Common.{◌≡◌, ℕ, ◌+◌, Bool, true, false, List, [], ◌∷◌, ◌++◌, Option, Some, None, refl, sym, ap, ◌∙◌, subst}
+use Rattle.std.proofs.Common.{◌≡◌, ℕ, Bool, true, false, List, [], ◌∷◌, sym, subst}
 use Rattle.task_core.specs.Word.{State}
 use Rattle.task_core.specs.declared.acts.Act.TheVariants.{BeginNotify, EndCall, Look, MissNotify, TakeAwaiter}
-use Rattle.task_cell.proofs.Moved.{did_then, held_is, position_is, stands}
+use Rattle.task_cell.proofs.Moved.{did_then, stands}
 use Rattle.task_cell.proofs.PollWays.{ends as poll_end, then_goes}
 use Rattle.task_cell.specs.Calls.{Did, DidWith, Fits, Stands, StandsWith, position}
 use Rattle.task_cell.specs.Calls.{BeginsNotify}
 use Rattle.task_cell.specs.PollPaths.{ClaimsOutput}
 use Rattle.task_cell.specs.declared.cell.Party.{Party}
 use Rattle.task_exports.proofs.Notices.{at_rest, passes_after, takes_after}
-use Rattle.task_exports.specs.TaskAnswers.{Answers, ClaimGoesOn, EndGoesOn, PassesBy, TakesPlace, claim_takes, end_takes, ends, ends_and_takes, ends_now, finds_other, has_it, has_it_and_takes, has_it_now, none_due, taking}
+use Rattle.task_exports.specs.TaskAnswers.{Answers, ClaimGoesOn, EndGoesOn, PassesBy, claim_takes, end_takes, ends, ends_and_takes, ends_now, finds_other, has_it, has_it_and_takes, has_it_now, none_due}
 use Rattle.task_laws.specs.Table.{notifies}
 use Rattle.task_laws.specs.declared.positions.NotifyingCall.TheVariants.{OfClaim, OfPoll}
 use Rattle.task_laws.specs.declared.positions.PollAnswer.TheVariants.{IsClosed}
-use Rattle.task_laws.specs.declared.positions.Position.{Position}
 use Rattle.task_laws.specs.declared.positions.Position.TheVariants.{Answering, Notifier, Releaser, TookOutput}
 use Rattle.task_steps.specs.Deeds.{act, row}
 use Rattle.task_steps.specs.PollScripts.{has_ended, has_output}

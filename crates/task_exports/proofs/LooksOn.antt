@@ -1,13 +1,12 @@
 -- The two looks of a poll, each with what followed it.
 use Rattle.task_steps.specs.Values.{Values}
 use Rattle.task_cell.proofs.Vocabulary.{work_first}
-use Rattle.std.proofs.Common.{◌≡◌, ℕ, ◌+◌, Bool, true, false, List, [], ◌∷◌, refl, sym, ap, ◌∙◌, subst}
+use Rattle.std.proofs.Common.{◌≡◌, ℕ, ◌+◌, Bool, true, false, List, [], ◌∷◌, ap, subst}
 use Rattle.std.specs.Prelude.{Err, Ok}
 use Rattle.task_core.specs.Word.{State}
 use Rattle.task_core.specs.declared.acts.Act.TheVariants.{ClaimOutput, EndCall, Look}
 use Rattle.task_cell.proofs.Moved.{position_is, stands}
 use Rattle.task_cell.proofs.PollAnswers.{saw, saw_end, seen, seen_again, waited}
-use Rattle.task_cell.proofs.PollWays.{ends as poll_end}
 use Rattle.task_cell.specs.Calls.{Did, Stands, StandsWith, position}
 use Rattle.task_cell.specs.PollPaths.{Looks, LooksAgain}
 use Rattle.task_cell.specs.declared.cell.Party.{Party}
@@ -15,7 +14,6 @@ use Rattle.task_exports.proofs.Looks.{answers_claimed, answers_ended, claimed_st
 use Rattle.task_exports.specs.TaskAnswers.{Answers, ClaimGoesOn, EndGoesOn, LooksOn, Polls, answers, answers_now, registers, waits}
 use Rattle.task_laws.specs.Table.{notifies}
 use Rattle.task_laws.specs.declared.positions.NotifyingCall.TheVariants.{OfClaim, OfPoll}
-use Rattle.task_laws.specs.declared.positions.Position.{Position}
 use Rattle.task_laws.specs.declared.positions.Position.TheVariants.{Looking, Notifier, Registrar}
 use Rattle.task_steps.specs.Deeds.{act, row}
 use Rattle.task_steps.specs.PollScripts.{has_ended, has_to_wait}

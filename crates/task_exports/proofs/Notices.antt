@@ -4,7 +4,7 @@ use Rattle.std.proofs.Common.{◌≡◌, ℕ, Bool, true, false, List, [], ◌�
 use Rattle.task_core.specs.Word.{State}
 use Rattle.task_core.specs.declared.acts.Act.TheVariants.{BeginNotify, EndCall, EndNotify, MissNotify, TakeAwaiter}
 use Rattle.task_cell.proofs.Moved.{did_then, held_is, position_is, stands}
-use Rattle.task_cell.specs.Calls.{Did, DidWith, Fits, Stands, StandsWith, places_of, position}
+use Rattle.task_cell.specs.Calls.{Did, DidWith, Fits, StandsWith, places_of, position}
 use Rattle.task_cell.specs.Calls.{BeginsNotify, EndsNotify, finds_another, takes_place}
 use Rattle.task_cell.specs.declared.cell.Party.{Party}
 use Rattle.task_exports.specs.TaskAnswers.{TakesPlace, taking}
@@ -17,7 +17,6 @@ use Rattle.task_laws.specs.declared.positions.Position.TheVariants.{Answering, A
 use Rattle.task_laws.specs.declared.positions.Rest.{Rest}
 use Rattle.task_steps.proofs.Bools.{never}
 use Rattle.task_steps.specs.Deeds.{act, row}
-use Rattle.task_steps.specs.Rule.{Waits}
 use Rattle.task_steps.specs.Standing.{as_task, poll_number, rest_of, way_of}
 use Rattle.task_steps.specs.declared.places.Held.{Held}
 use Rattle.task_steps.specs.declared.table.Deed.{Deed}

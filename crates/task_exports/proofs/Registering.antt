@@ -1,6 +1,6 @@
 -- What the steps come to by which a poll registers its awaiter.
 use Rattle.task_cell.proofs.Vocabulary.{TaskPlace, awaiter_first}
-use Rattle.std.proofs.Common.{◌≡◌, ℕ, Bool, true, false, List, [], ◌∷◌, ◌++◌, Option, Some, None, is_some, refl, sym, ap, ◌∙◌, subst}
+use Rattle.std.proofs.Common.{◌≡◌, ℕ, Bool, true, false, List, [], ◌∷◌, Option, Some, None, is_some, refl, sym, ap, ◌∙◌, subst}
 use Rattle.task_core.specs.Word.{State}
 use Rattle.task_core.specs.declared.acts.Act.TheVariants.{CloneAwaiter, DropAwaiter, BeginRegister, EndRegister, FindNotify, StoreAwaiter, TakeAwaiter}
 use Rattle.task_cell.proofs.Moved.{did_then, held_is, position_is, stands}
@@ -8,7 +8,7 @@ use Rattle.task_cell.specs.Calls.{Did, DidWith, Stands, StandsWith, places_of, p
 use Rattle.task_cell.specs.PollPaths.{BeginsRegister, EndsRegister, begins, dropped_if, ends, finds_notified, finds_one}
 use Rattle.task_cell.specs.Stores.{PutsClone}
 use Rattle.task_cell.specs.declared.cell.Party.{Party}
-use Rattle.task_exports.specs.TaskAnswers.{EndsStore, HasStored, IsStored, LooksAfter, LooksOn, PutsIn, Settles, Stores, alone, end_missed, finds_notifier, has_to_take_back, looks, over, stores}
+use Rattle.task_exports.specs.TaskAnswers.{EndsStore, HasStored, IsStored, LooksOn, PutsIn, Settles, Stores, alone, end_missed, finds_notifier, has_to_take_back, looks, over, stores}
 use Rattle.task_laws.specs.Table.{after_storing}
 use Rattle.task_laws.specs.declared.positions.Position.{Position}
 use Rattle.task_laws.specs.declared.positions.Position.TheVariants.{Looking, OldAwaiterInHand, Registered, Registrar, TookBack, UnusedClone}

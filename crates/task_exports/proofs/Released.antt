@@ -1,10 +1,10 @@
 -- What was taken out of the awaiter's place by a caller.
-use Rattle.std.proofs.Common.{◌≡◌, ℕ, true, false, List, [], ◌∷◌, ◌++◌, Option, Some, None, refl, sym, ap, ◌∙◌}
+use Rattle.std.proofs.Common.{◌≡◌, ℕ, false, List, [], ◌∷◌, Option, Some, None, refl, sym, ◌∙◌}
 use Rattle.std.specs.Prelude.{IfSome, nat_eq}
 use Rattle.task_core.specs.Word.{State}
 use Rattle.task_core.specs.declared.acts.Act.TheVariants.{EndNotify}
-use Rattle.task_cell.proofs.Moved.{did_then, limit_is, stands}
-use Rattle.task_cell.specs.Calls.{DidWith, StandsWith}
+use Rattle.task_cell.proofs.Moved.{stands}
+use Rattle.task_cell.specs.Calls.{DidWith}
 use Rattle.task_cell.specs.declared.cell.Party.{Party}
 use Rattle.task_exports.proofs.Numbers.{differs}
 use Rattle.task_exports.specs.Answers.{IsFull}

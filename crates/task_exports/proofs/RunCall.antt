@@ -1,5 +1,5 @@
 -- What the parts of a run come to, put together from its exports.
-use Rattle.std.proofs.Common.{◌≡◌, ℕ, Bool, true, false, List, [], ◌∷◌, ◌++◌, Option, Some, None, is_some, if◌then◌else◌, refl, sym, subst}
+use Rattle.std.proofs.Common.{◌≡◌, ℕ, Bool, true, false, List, [], ◌∷◌, ◌++◌, Option, Some, None, if◌then◌else◌, refl, sym, subst}
 use Rattle.std.specs.Prelude.{IfSome, nat_eq}
 use Rattle.task_exports.specs.Unknown.{unknown}
 use Rattle.task_core.specs.Word.{State}
@@ -17,7 +17,7 @@ use Rattle.task_exports.proofs.EndsCall.{IsEmptier}
 use Rattle.task_exports.proofs.Numbers.{differs, joined}
 use Rattle.task_exports.specs.Answers.{Completed, Finishes, GivesBack, GoesOn, Pends, Starts, empties}
 use Rattle.task_exports.specs.Answers as answers
-use Rattle.task_exports.specs.CallPaths.{Asked, Done, EndsTaken, ends_taken}
+use Rattle.task_exports.specs.CallPaths.{Done, EndsTaken, ends_taken}
 use Rattle.task_exports.specs.Hands.{IsGone, IsLive}
 use Rattle.task_exports.specs.Parties.{CellParty}
 use Rattle.task_exports.specs.declared.hand.Hand.{Hand}

@@ -3,9 +3,9 @@ use Rattle.std.specs.declared.alloc.Global.{Global}
 use Rattle.std.specs.Prelude.{◌≡◌, ◌||◌, nat_eq, ℕ, Bool, true, false, List, [], ◌∷◌, ◌++◌, Option, Some, None, is_some}
 use Rattle.task_core.specs.Word.{State, is_open}
 use Rattle.task_core.specs.declared.acts.Act.TheVariants.{CancelOver, CancelBusy, CancelIdle, GiveUpOutput, DropOutput, DetachOrphan}
-use Rattle.task_core.specs.declared.acts.Act.TheVariants.{DetachLast, Detach, EmptySlots, EndCall, HandOver, BeginNotify, MissNotify}
-use Rattle.task_core.specs.declared.acts.Act.TheVariants.{TakeAwaiter, EndNotify, WakeAwaiter, DropAwaiter, Look, ClaimOutput}
-use Rattle.task_core.specs.declared.acts.Act.TheVariants.{HandOutOutput, CloneAwaiter, RefuseClone, StoreAwaiter, FindNotify}
+use Rattle.task_core.specs.declared.acts.Act.TheVariants.{DetachLast, Detach, EndCall, HandOver, BeginNotify, MissNotify}
+use Rattle.task_core.specs.declared.acts.Act.TheVariants.{TakeAwaiter, EndNotify, Look, ClaimOutput}
+use Rattle.task_core.specs.declared.acts.Act.TheVariants.{CloneAwaiter, StoreAwaiter, FindNotify}
 use Rattle.task_core.specs.declared.acts.Act.TheVariants.{BeginRegister, EndRegister, LookFinished}
 use Rattle.task_laws.specs.declared.positions.Answer.TheVariants.{Nothing}
 use Rattle.task_laws.specs.declared.positions.NotifyingCall.{NotifyingCall}
@@ -13,7 +13,7 @@ use Rattle.task_laws.specs.declared.positions.NotifyingCall.TheVariants.{OfCance
 use Rattle.task_laws.specs.declared.positions.Position.{Position}
 use Rattle.task_laws.specs.declared.positions.Position.TheVariants.{AwaiterInHand, Emptier, Looking, OutputCloser}
 use Rattle.task_laws.specs.declared.positions.Position.TheVariants.{Registered, Registrar, Releaser, TookBack, TookOutput, UnusedClone}
-use Rattle.task_laws.specs.Table.{after_storing, after_waking, notifies}
+use Rattle.task_laws.specs.Table.{after_storing, notifies}
 use Rattle.task_steps.specs.declared.table.Deed.{Deed}
 use Rattle.task_steps.specs.declared.table.Slot.{Slot}
 use Rattle.task_steps.specs.Deeds.{row, act}

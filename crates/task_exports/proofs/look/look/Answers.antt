@@ -1,4 +1,3 @@
-use Rattle.task_cell.proofs.Vocabulary.{Some, None}
 use Rattle.std.proofs.Common.{sym, ◌∙◌, subst}
 use Rattle.task_cell.specs.PollPaths.{Looks}
 use Rattle.task_exports.proofs.LooksOn.{look_at_end, look_claims, look_ended, look_registers, look_stands}

@@ -1,4 +1,3 @@
-use Rattle.task_cell.proofs.Vocabulary.{Some, None}
 use Rattle.std.proofs.Common.{sym, ◌∙◌, subst}
 use Rattle.task_cell.specs.PollPaths.{LooksAgain}
 use Rattle.task_exports.proofs.LooksOn.{again_at_end, again_claims, again_ended, again_stands, again_waits}

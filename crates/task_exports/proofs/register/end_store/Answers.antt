@@ -1,4 +1,3 @@
-use Rattle.task_cell.proofs.Vocabulary.{Some, None}
 use Rattle.std.proofs.Common.{subst}
 use Rattle.task_cell.specs.PollPaths.{EndsRegister}
 use Rattle.task_exports.proofs.Registering.{is_looking, is_registered, looks_now, takes_back}

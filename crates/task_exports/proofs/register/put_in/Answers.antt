@@ -1,4 +1,3 @@
-use Rattle.task_cell.proofs.Vocabulary.{Some, None}
 use Rattle.task_exports.proofs.Registering.{put_alone, put_over}
 use Rattle.task_exports.proofs.register.put_in.Goals as goal
 

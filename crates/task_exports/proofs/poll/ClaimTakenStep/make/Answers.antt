@@ -1,4 +1,4 @@
-use Rattle.task_cell.proofs.Vocabulary.{work_first, Some, None}
+use Rattle.task_cell.proofs.Vocabulary.{work_first}
 use Rattle.std.proofs.Common.{[]}
 use Rattle.task_exports.proofs.Polling.{claim_has_hand, claim_has_none}
 use Rattle.task_laws.specs.declared.positions.NotifyingCall.TheVariants.{OfClaim}

@@ -1,4 +1,3 @@
-use Rattle.task_cell.proofs.Vocabulary.{Some, None}
 use Rattle.std.proofs.Common.{[], ◌∙◌}
 use Rattle.task_exports.proofs.Polling.{poll_ends_alone, poll_has_hand, poll_has_none}
 use Rattle.task_cell.proofs.Moved.{stands}

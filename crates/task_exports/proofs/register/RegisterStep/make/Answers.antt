@@ -1,4 +1,3 @@
-use Rattle.task_cell.proofs.Vocabulary.{Some, None}
 use Rattle.std.proofs.Common.{subst}
 use Rattle.task_cell.specs.PollPaths.{BeginsRegister}
 use Rattle.task_exports.proofs.Registering.{found_notifier, has_begun, stored}
