@@ -4,8 +4,9 @@ use Rattle.task_cell.proofs.Vocabulary.{◌≡◌, ℕ, Bool, true, false, List,
 use Rattle.task_cell.proofs.Vocabulary.{Slots, is_held, Nothing, Waker, Lent, Ended, ThenEnds, Position, At, Deliverer, Emptier, OrphanHolder, Act, GainReference, FindLimit}
 use Rattle.task_cell.proofs.Vocabulary.{DropWaker, DropLastWaker, OrphanTask, CloseOrphan, WakeOver, WakeScheduled, WakeRunning, WakeIdle, EndCall, Deed, Member, View, Party, Shared}
 use Rattle.task_cell.proofs.Vocabulary.{Last, member, view, fresh, head_of, acted, Carried, Makes, deeds, limit_of, IsNew, Sees, Stands, Did, row, act, after, as_waker, as_deliverer, MayTry, HasChanged}
-use Rattle.task_cell.proofs.Vocabulary.{HasEnded, others_left, at_limit, to_gain, to_wake}
-use Rattle.task_steps.specs.WakerScripts.{dropping_as, waking_task, brings_runnable}
+use Rattle.task_cell.proofs.Vocabulary.{HasEnded, others_left, at_limit, to_gain, to_wake, observed, state_of, step}
+use Rattle.task_core.specs.Word.{HasRoom}
+use Rattle.task_steps.specs.WakerScripts.{dropping_as, is_over, waking_task, brings_runnable}
 use Rattle.task_steps.specs.declared.waker.Woken.{Woken}
 use Rattle.task_steps.specs.declared.waker.Woken.TheVariants.{Scheduled, Running, Idle}
 use Rattle.task_cell.proofs.Vocabulary.{dropping_waker, closing_orphan, is_gained, finds_limit, is_scheduled, is_running, Gains, gains_none, gains_one, WakesTask}
@@ -21,9 +22,10 @@ use Rattle.counted_block.specs.Blocks.{BlockId}
 use Rattle.task_cell.specs.Calls.{second}
 use Rattle.task_steps.specs.Standing.{as_waker}
 use Rattle.task_cell.specs.WakerPaths as paths
+use mathlib.Core.Option as maybe
 use Rattle.task_steps.specs.Shares.{MayBring}
 use Rattle.task_steps.proofs.Handles.{gains_handle, wakes_task}
-use Rattle.task_cell.proofs.Attempts.{may_bring_at}
+use Rattle.task_cell.proofs.Attempts.{ended, may_bring_at, seeing_first, seeing_next}
 use Rattle.task_steps.proofs.WakerOwed as owed
 use Rattle.task_cell.proofs.Carried.{keeps_places}
 use Rattle.task_cell.proofs.Moved.{moved, did, stands}
@@ -43,6 +45,10 @@ module _ {F T A : Type 0} where
   pub fresh_stands : (at : Position) (l : ℕ) (p : Party F T A) → p.seat.me ≡ (view l (fresh at ∷ []), []) → Stands at p
   fresh_stands at l p is = is ∙ ap (λ (z : ℕ × List Deed). (view z.0 (member at z.1 ∷ []), []))
       (λ i. (sym (ap (λ (x : Me (TaskPlace F T A) View). x.0.limit) is) i, sym (ap (λ (x : Me (TaskPlace F T A) View). (head_of x.0.members).deeds) is) i))
+
+  -- a party of this cell that was lent for a call, and has made none
+  pub lent_stands : (block : BlockId) (limit : ℕ) (p : Party F T A) → (p.seat.block ≡ block) × (p.seat.me ≡ (view limit (fresh (At Lent) ∷ []), [])) → Stands (At Lent) p
+  lent_stands block limit p m = fresh_stands (At Lent) limit p m.1
 
   -- the party of a call by reference may be let go after the call
   abbrev MayGo : Party F T A → Type 0
@@ -157,6 +163,24 @@ module _ {F T A : Type 0} where
       → t.seat.block ≡ q.seat.block → t.seat.me ≡ (without_newest q.seat.me.0, q.seat.me.1) → d.seat.block ≡ q.seat.block → d.seat.me ≡ (newest q.seat.me.0, []) → WakesTask p t (Some d)
   wakes_idle limit r p q t d s cell x idle there is there' is' = let path : List Deed = row WakeIdle x.word ∷ act EndCall ∷ [] in let b = beside_deliverer limit r p q s x idle in
       makes_one path d (is_idle x.word b.0) (leaves_newest path (fresh as_deliverer) p q t b.1 cell there is) (is_newest path as_deliverer p q d b.1 cell there' is')
+
+  -- a party of this seat that is lent, and has not looked yet
+  abbrev pub unmoved : ℕ → Party F T A → Party F T A
+  unmoved limit q = record { seat = record (q.seat) { me = (view limit (fresh (At Lent) ∷ []), []) } }
+
+  -- .. has seen the word on which it is to try a wake
+  pub looks_open : {values : Values F T} (limit n : ℕ) (w : State) (q : Party F T A) → w ≡ state_of n → is_over limit w ≡ false → observed values to_wake (step 2 0 0 0 maybe.none) (unmoved limit q).seat.me n q.seat.me → Sees w (unmoved limit q) q
+  looks_open limit n w q is shows e = let me = (unmoved limit q).seat.me in record {
+    cell = refl;
+    number = refl;
+    room = subst HasRoom (sym is) e.2.room;
+    seen = seeing_next n w w me me q.seat.me (seeing_first w me None tt refl) is (e.1 (ap (is_over limit) (sym is) ∙ shows));
+  }
+
+  -- .. or that the task is over, and has made the wake
+  pub looks_over : {values : Values F T} (limit n : ℕ) (w : State) (q : Party F T A) → w ≡ state_of n → is_over limit w ≡ true → observed values to_wake (step 2 0 0 0 maybe.none) (unmoved limit q).seat.me n q.seat.me → WakesTask (unmoved limit q) q None
+  looks_over limit n w q is over e = let me = (unmoved limit q).seat.me in
+      wakes_over limit w (unmoved limit q) q refl refl (ended limit n to_wake w w me me q.seat.me (seeing_first w me None tt refl) is over (e.0 (ap (is_over limit) (sym is) ∙ over)) e.2)
 
   -- the row of a waker's drop
   pub drops : {values : Values F T} (w : State) (p q : Party F T A) → Stands as_waker p → q.seat.block ≡ p.seat.block → Makes values (dropping_waker w) w p.seat.me q.seat.me → DropsWaker p q (dropped_by w)

@@ -18,6 +18,7 @@ ghost use Rattle.task_exports.specs.Unknown.{unknown};
 use crate::answers::{
     DROP_FUTURE, DROP_OUTPUT, DROP_OUTPUT_DUE, MISSED, OVER, POLL, SCHEDULE, SCHEDULE_WOKEN,
 };
+use crate::bits::{Answer, Bits, close, open};
 use crate::ends::go_on;
 use crate::hand::{Elsewhere, Hand, Record};
 use crate::handle::{Handle, put, take};
@@ -43,9 +44,8 @@ fn start(hand: Hand) -> (Hand, u32)
     }
 }
 
-/// Starts a run by a Runnable: 3, the future is to be polled; 4, the task was closed, and its future is to be dropped; 0, each try has missed.
-#[unsafe(no_mangle)]
-pub extern "C" fn async_task_start(h: &mut Handle) -> u32
+/// Starts a run by the Runnable that lies at `h`, as `async_task_start`.
+pub fn start_at(h: &mut Handle) -> u32
     requires handle { IsFull h.old }
     requires party { Stands as_runnable h.old.hand.party }
     ensures there { h.new.there ≡ true }
@@ -54,6 +54,18 @@ pub extern "C" fn async_task_start(h: &mut Handle) -> u32
     let (hand, answer) = start(take(h));
     put(h, hand);
     answer
+}
+
+/// Starts a run by a Runnable: 3, the future is to be polled; 4, the task was closed, and its future is to be dropped; 0, each try has missed.
+#[unsafe(no_mangle)]
+pub extern "C" fn async_task_start(h: Bits) -> Answer
+    requires handle { IsLive h.hand }
+    requires party { Stands as_runnable h.hand.party }
+    ensures path { Starts h.hand result.left.hand result.number }
+{
+    let (hand, number) = start(open(h));
+    let left = close(hand);
+    Answer { number, left }
 }
 
 fn run_closed(hand: Hand) -> (Hand, u32)
@@ -111,9 +123,8 @@ fn complete(hand: Hand) -> (Hand, u32)
     }
 }
 
-/// Ends a run whose poll was ready, once the caller has dropped the future and stored the output: 5 and 6, nobody will claim the output, and it is to be dropped (in 6 an awaiter is due); 7, the awaiter is to be moved out of its place; 1, the call has ended; 9, it was the last handle; 0, each try has missed.
-#[unsafe(no_mangle)]
-pub extern "C" fn async_task_complete(h: &mut Handle) -> u32
+/// Ends a run by the handle that lies at `h`, as `async_task_complete`.
+pub fn complete_at(h: &mut Handle) -> u32
     requires handle { IsFull h.old }
     requires party { (y : _) × StandsWith Polling (work_first y []) h.old.hand.party }
     ensures there { h.new.there ≡ true }
@@ -122,6 +133,18 @@ pub extern "C" fn async_task_complete(h: &mut Handle) -> u32
     let (hand, answer) = complete(take(h));
     put(h, hand);
     answer
+}
+
+/// Ends a run whose poll was ready, once the caller has dropped the future and stored the output: 5 and 6, nobody will claim the output, and it is to be dropped (in 6 an awaiter is due); 7, the awaiter is to be moved out of its place; 1, the call has ended; 9, it was the last handle; 0, each try has missed.
+#[unsafe(no_mangle)]
+pub extern "C" fn async_task_complete(h: Bits) -> Answer
+    requires handle { IsLive h.hand }
+    requires party { (y : _) × StandsWith Polling (work_first y []) h.hand.party }
+    ensures path { Completed h.hand result.left.hand result.number }
+{
+    let (hand, number) = complete(open(h));
+    let left = close(hand);
+    Answer { number, left }
 }
 
 fn drop_output(hand: Hand, due: bool) -> (Hand, u32)
@@ -188,8 +211,8 @@ fn pend(hand: Hand) -> (Hand, u32, Option<Record>)
     }
 }
 
-/// Ends a run whose poll was pending, as `async_task_pending`: the answer, and the record of a party that has handed its share on.
-pub fn pending(h: &mut Handle) -> (u32, Option<Record>)
+/// Ends a run by the handle that lies at `h`, as `async_task_pending`: the answer, and the record of a party that has handed its share on.
+pub fn pending_at(h: &mut Handle) -> (u32, Option<Record>)
     requires handle { IsFull h.old }
     requires party { (y : _) × StandsWith Polling (work_first y []) h.old.hand.party × IsFuture unknown y }
     ensures there { h.new.there ≡ true }
@@ -202,13 +225,14 @@ pub fn pending(h: &mut Handle) -> (u32, Option<Record>)
 
 /// Ends a run whose poll was pending: 4, the task was closed meanwhile, and its future is to be dropped; 11, it was woken meanwhile, and the handle is its Runnable, which is to be scheduled; 10, nobody else has a handle, and the handle is its Runnable, which is to be scheduled; 1, the call has ended; 0, each try has missed.
 #[unsafe(no_mangle)]
-pub extern "C" fn async_task_pending(h: &mut Handle) -> u32
-    requires handle { IsFull h.old }
-    requires party { (y : _) × StandsWith Polling (work_first y []) h.old.hand.party × IsFuture unknown y }
-    ensures there { h.new.there ≡ true }
-    ensures path { (ended : Option CellParty) × Pends h.old.hand h.new.hand ended result }
+pub extern "C" fn async_task_pending(h: Bits) -> Answer
+    requires handle { IsLive h.hand }
+    requires party { (y : _) × StandsWith Polling (work_first y []) h.hand.party × IsFuture unknown y }
+    ensures path { (ended : Option CellParty) × Pends h.hand result.left.hand ended result.number }
 {
-    pending(h).0
+    let (hand, number, _) = pend(open(h));
+    let left = close(hand);
+    Answer { number, left }
 }
 
 fn end_closed(hand: Hand) -> (Hand, u32)

@@ -25,7 +25,7 @@ tried_again : (k : ℕ) (log : List Entry) (w : State) (t : Option Tries) → Tr
 tried_again k log w None h = omega (arith, same_word w)
 tried_again k log w (Some t) h = omega (arith, same_word w)
 
-same_words : (l : List ℕ) → set l 0 (get_or l 0 0) ≡ l
+pub same_words : (l : List ℕ) → set l 0 (get_or l 0 0) ≡ l
 same_words [] = refl
 same_words (x ∷ xs) = refl
 
@@ -71,17 +71,16 @@ module _ (F T A : Type 0) (values : Values F T) (limit : ℕ) where
       )
 
   -- a party that only sees the word
+  pub has_seen : (s : B) (id : ℕ) (l : ℕ) (p : Position) (ds : List Deed) (t : Option Tries) (us : List Member) (c : Rule s) → get_elem? s.views id ≡ some (view l (trying p ds t ∷ us))
+      → Rule record { words = set s.words 0 (now s); homes = s.homes; views = set s.views id (view l (trying p ds (tries_after (state_of (now s)) t) ∷ us)) }
+  has_seen s id l p ds t us c at = let new = tries_after (state_of (now s)) t in let w : View = view l (trying p ds new ∷ us) in
+      let stands : c.running.machine.word ≡ state_of (now s) = sym (ap state_of c.running.word_is ∙ state_of_number_of c.running.machine.word) in
+      subst (λ (ws : List ℕ). Rule record { words = ws; homes = s.homes; views = set s.views id w }) (sym (same_words s.words)) (reseen s id l p ds t new us c at
+      (λ k h. subst (λ (x : State). Tried k c.running.log c.running.machine.word (tries_after x t)) stands (tried_again k c.running.log c.running.machine.word t h)))
+
   sees : (s : B) (id : ℕ) (l : ℕ) (p : Position) (ds : List Deed) (t : Option Tries) (us : List Member) (held : List (ℕ × TaskPlace F T A)) (c : Rule s) → get_elem? s.views id ≡ some (view l (trying p ds t ∷ us))
       → Result F T A values limit s id (view l (trying p ds t ∷ us), held) (now s) (λ m. m ≡ (view l (trying p ds (tries_after (state_of (now s)) t) ∷ us), held))
-  sees s id l p ds t us held c at = let new = tries_after (state_of (now s)) t in let w : View = view l (trying p ds new ∷ us) in
-      let stands : c.running.machine.word ≡ state_of (now s) = sym (ap state_of c.running.word_is ∙ state_of_number_of c.running.machine.word) in (
-        w,
-        keeps,
-        tt,
-        subst (λ (ws : List ℕ). Rule record { words = ws; homes = s.homes; views = set s.views id w }) (sym (same_words s.words)) (reseen s id l p ds t new us c at
-            (λ k h. subst (λ (x : State). Tried k c.running.log c.running.machine.word (tries_after x t)) stands (tried_again k c.running.log c.running.machine.word t h))),
-        refl,
-      )
+  sees s id l p ds t us held c at = (view l (trying p ds (tries_after (state_of (now s)) t) ∷ us), keeps, tt, has_seen s id l p ds t us c at, refl)
 
   -- what an attempt owes: its change where it finds the word that it names, and its end
   pub may_try : {Row : Type 0} (slots id l : ℕ) (p : Position) (ds : List Deed) (us : List Member) (held : List (ℕ × TaskPlace F T A)) (a : Attempt Row) → slots ≡ 2 → OwesChange F T A values limit a p ds us held → ((w : State) → a.ends l w ≡ a.ends limit w)

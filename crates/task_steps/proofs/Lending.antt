@@ -1,11 +1,20 @@
 -- A seat comes to the table with a waker that is lent to it.
-use Rattle.std.proofs.Common.{◌≡◌, ℕ, subst, List, [], ◌∷◌, ◌++◌, length, sym, refl, ap, ◌∙◌, arith}
-use mathlib.Core.Option.{some}
+use Rattle.std.proofs.Common.{◌≡◌, ℕ, Bool, true, false, None, subst, List, [], ◌∷◌, ◌++◌, length, get_or, set, sym, refl, ap, ◌∙◌, arith}
+use mathlib.Core.Option.{none, some}
 use lib.ListN.{get_elem?}
-use Rattle.atomic_table.specs.Table.{State as Board, Me, Enters}
-use Rattle.task_steps.proofs.Vocabulary.{CallEnds, Nothing, At, Lent, Look, Outcome, leaves_slots, Machine, scene, owns_awaiter, TaskPlace, View, state_of, state_of_number_of}
+use Rattle.atomic_table.specs.Table.{State as Board, Me, Enters, step}
+use Rattle.atomic_table.proofs.Lists.{at_last}
+use Rattle.task_steps.proofs.Vocabulary.{CallEnds, Nothing, At, Lent, Look, WakeOver, EndCall, Act, Outcome, leaves_slots, Machine, scene, owns_awaiter, TaskPlace, State, View, state_of, state_of_number_of}
 use Rattle.task_steps.specs.Values.{Values}
-use Rattle.task_steps.specs.Rule.{deed, view, fresh, found_by, lender, has_work, HomesAgree, RuleHolds}
+use Rattle.task_steps.specs.Rule.{deed, view, fresh, trying, found_by, lender, has_work, HomesAgree, RuleHolds}
+use Rattle.task_steps.specs.Attempts.{tries_after, observed}
+use Rattle.task_steps.specs.Knows.{Knows}
+use Rattle.task_steps.specs.Steps.{Makes}
+use Rattle.task_steps.specs.WakerScripts.{is_over, to_wake}
+use Rattle.task_steps.proofs.Allowed.{noted_only}
+use Rattle.task_steps.proofs.Attempts.{has_seen, same_words}
+use Rattle.task_steps.proofs.Known.{knows_now}
+use Rattle.task_steps.proofs.WakerOwed.{wake_keeps}
 use Rattle.task_steps.proofs.Explains.{next_machine, joined_by}
 use Rattle.task_steps.proofs.Facts.{law, low, many_next}
 use Rattle.task_steps.proofs.Seats.{retold}
@@ -14,6 +23,11 @@ use Rattle.task_core.specs.Word.{HasRoom}
 -- the lender stays at rest, and adds a lent waker
 abbrev lent_by : Machine → Outcome
 lent_by m = leaves_slots (scene m) m.word (At Lent) (At Lent ∷ []) (CallEnds Nothing ∷ [])
+
+-- another element at the end of a list
+set_last : {X : Type 0} (l : List X) (a b : X) → set (l ++ a ∷ []) (length l) b ≡ l ++ b ∷ []
+set_last [] a b = refl
+set_last (x ∷ xs) a b = λ i. x ∷ set_last xs a b i
 
 module _ (F T A : Type 0) (values : Values F T) (limit : ℕ) where
   abbrev B : Type 0
@@ -43,3 +57,51 @@ module _ (F T A : Type 0) (values : Values F T) (limit : ℕ) where
       subst HasRoom (sym (state_of_number_of m.word) ∙ ap state_of (sym run.word_is)) (let h = low m (law limit run.log m run.told.reaches) in let e = run.limited in let c = r.capped in omega arith),
     ),
   )
+
+  -- .. and have looked at the word for a wake, which has ended where the task is over
+  pub wakes_anew : Enters Rule 2 0 (λ n w. observed values to_wake (step 2 0 0 0 none) (came (view limit (fresh (At Lent) ∷ []))) n (came w))
+  wakes_anew s r homes fits = by (is_over limit (state_of n)) refl
+    where
+      n : ℕ
+      n = get_or s.words 0 0
+
+      id : ℕ
+      id = length s.views
+
+      lent : View
+      lent = view limit (fresh (At Lent) ∷ [])
+
+      acts : List Act
+      acts = WakeOver ∷ EndCall ∷ []
+
+      board : View → B
+      board w = record { words = s.words; homes = s.homes; views = s.views ++ w ∷ [] }
+
+      here : Rule (board lent)
+      here = let e = enters 2 s r homes fits in subst (λ (w : View). Rule (board w)) (ap (λ (m : Me (TaskPlace F T A) View). m.0) e.2.0) e.1
+
+      at : get_elem? (s.views ++ lent ∷ []) id ≡ some lent
+      at = at_last s.views lent id refl
+
+      last : (w : View) → Rule record { words = set s.words 0 n; homes = s.homes; views = set (s.views ++ lent ∷ []) id w } → Rule (board w)
+      last w = subst (λ (z : List ℕ × List View). Rule record { words = z.0; homes = s.homes; views = z.1 }) (λ i. (same_words s.words i, set_last s.views lent w i))
+
+      knows : Knows [] (state_of n)
+      knows = knows_now F T A values limit (board lent) id (came lent) limit (At Lent) [] None [] refl here at
+
+      differs : {P : Type 0} (b : Bool) → b ≡ true → b ≡ false → P
+      differs b e f = absurd (cc)
+
+      by : (b : Bool) → is_over limit (state_of n) ≡ b → (w : View) × Rule (board w) × observed values to_wake (step 2 0 0 0 none) (came lent) n (came w)
+      by true over = let run = here.running in let m : Machine = run.machine in let same : m.word ≡ state_of n = sym (ap state_of run.word_is ∙ state_of_number_of m.word) in
+          let k = wake_keeps limit m (ap (is_over limit) same ∙ over) in
+          let a = noted_only F T A values limit (board lent) here.capped run id (came lent) limit (At Lent) [] [] acts at refl homes k.outcome k.leads_to k.word_is k.places_are in (
+            a.0,
+            last a.0 a.1,
+            ((λ _. subst (λ (w : State). Makes values acts w (came lent) (came a.0)) same a.2), (λ no. differs (is_over limit (state_of n)) over no), knows),
+          )
+      by false is = let w : View = view limit (trying (At Lent) [] (tries_after (state_of n) None) ∷ []) in (
+        w,
+        last w (has_seen F T A values limit (board lent) id limit (At Lent) [] None [] here at),
+        ((λ yes. differs (is_over limit (state_of n)) yes is), (λ _. refl), knows),
+      )

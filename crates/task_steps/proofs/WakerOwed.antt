@@ -4,20 +4,20 @@ use Rattle.std.specs.Prelude.{nat_lt, nat_le, nat_eq, if◌then◌else◌}
 use Rattle.std.proofs.lemmas.Bool.Decides.{nat_tests}
 use Rattle.task_steps.specs.Values.{Values}
 use Rattle.task_steps.proofs.Vocabulary.{State, state_of, number_of, is_open, Event, Rest, Runnable, Waker, Lent}
-use Rattle.task_steps.proofs.Vocabulary.{At, OrphanHolder, DropWaker, DropLastWaker, OrphanTask, WakeScheduled, WakeRunning, WakeIdle}
+use Rattle.task_steps.proofs.Vocabulary.{At, OrphanHolder, WakeOver, DropWaker, DropLastWaker, OrphanTask, WakeScheduled, WakeRunning, WakeIdle}
 use Rattle.task_steps.proofs.Vocabulary.{Act, EndCall, Slots, is_held, may_ask, may_gain, may_wake, Machine, scene, Census, census, Holds, state_of_number_of, fetch_sub-reference, TaskPlace}
 use Rattle.task_steps.proofs.Vocabulary.{Deed, Member}
 use Rattle.task_core.specs.Rows.{found}
 use Rattle.task_steps.specs.Attempt.{word_after}
 use Rattle.task_steps.specs.Beside.{may_call}
-use Rattle.task_steps.specs.WakerScripts.{waking_task, to_gain, to_wake, dropping_as, dropping_waker, closing_orphan}
+use Rattle.task_steps.specs.WakerScripts.{is_over, waking_task, to_gain, to_wake, dropping_as, dropping_waker, closing_orphan}
 use Rattle.task_steps.specs.declared.waker.Dropped.TheVariants.{Shared, Last, Orphaned}
 use Rattle.task_steps.specs.declared.waker.Woken.TheVariants.{Scheduled, Running, Idle}
 use Rattle.task_steps.proofs.Bools.{never}
 use Rattle.task_steps.proofs.Seen.{true_right, left_true, right_true, not_true}
 use Rattle.task_steps.proofs.Facts.{counted}
 use Rattle.task_steps.proofs.Advance.{takes_awaiter, Steps}
-use Rattle.task_steps.proofs.Computed.{by_table, computed, allows, row_fits}
+use Rattle.task_steps.proofs.Computed.{Keeps, by_table, computed, noted, allows, row_fits}
 use Rattle.task_steps.proofs.Allowed.{Owes, OwesChange, OwesEnd}
 use Rattle.task_steps.proofs.TaskOwed.{over}
 
@@ -44,7 +44,11 @@ finds_it_over Waker m call e = refl
 finds_it_over Lent m call e = true_right (is_held m.word) (not (is_open m.word)) (over (is_open m.word) e)
 finds_it_over r m call e = never call
 
--- .. and one that changes the word of a task that has a handle
+-- .. keeps the word and the places
+pub wake_keeps : (limit : ℕ) (m : Machine) → is_over limit m.word ≡ true → Keeps m (At Lent) (WakeOver ∷ EndCall ∷ [])
+wake_keeps limit m is = noted (allows _ (may_wake (scene m) Lent) is (finds_it_over Lent m refl (not_true (is_open m.word) is))) refl refl
+
+-- one that changes the word of a task that has a handle
 wakes_it : (r : Rest) (m : Machine) → may_call r ≡ true → is_held m.word ≡ true → may_wake (scene m) r ≡ true
 wakes_it Waker m call held = refl
 wakes_it Lent m call held = ap (λ b. b || not (is_open m.word)) held

@@ -2,13 +2,16 @@
 ghost use Rattle.std.specs.Prelude.{◌≡◌, not};
 ghost use Rattle.task_laws.specs.Table.{is_held as has_handle};
 ghost use Rattle.task_steps.specs.WakerScripts.{others_left, dropped_by, dropping_waker, ends_waker, closing_orphan, to_gain, to_wake};
-ghost use Rattle.task_steps.specs.Beside.{borrowing, without_newest, newest};
+ghost use Rattle.task_steps.specs.Beside.{borrowing, waking_anew, without_newest, newest};
+ghost use Rattle.task_steps.specs.Values.{values_of};
 
 use crate::attempt::Change;
+use crate::kept::Kept;
 use crate::script::{Giving, Script};
-use crate::table::{TaskPlace, View};
+use crate::table::{TaskPlace, Terms, View};
 use atomic_table::Split;
 use counted_block::BlockPlay;
+use task_core::Yields;
 use task_core::acts::Act::{
     DropWaker, GainReference, GiveUpReference, WakeIdle, WakeRunning, WakeScheduled,
 };
@@ -19,6 +22,13 @@ pub struct Borrowing;
 
 impl<F, T, A, K> BlockPlay<TaskPlace<F, T, A>, View, K> for Borrowing {
     ghost then = { λ _. borrowing };
+}
+
+/// The same for a wake, which has ended where the load finds the task over.
+pub struct WakingAnew;
+
+impl<F: Yields, A> BlockPlay<TaskPlace<F, Kept<F>, A>, View, Terms<F>> for WakingAnew {
+    ghost then = { λ terms. waking_anew (values_of F.Yields terms.future.value) };
 }
 
 /// A reference is gained, unless the count is at the limit.

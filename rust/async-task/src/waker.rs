@@ -23,8 +23,14 @@ unsafe fn clone(data: *const ()) -> RawWaker {
     raw(at::<Lent>(data).choose::<Gains>().into_raw())
 }
 
+/// Says that the branch which calls this is not the one to test for first: most wakes find a task that is scheduled or over.
+#[cold]
+#[inline(always)]
+fn rare() {}
+
 unsafe fn wake_by_ref(data: *const ()) {
     if let Woken::Idle(at) = at::<Lent>(data).choose::<Wakes>() {
+        rare();
         deliver(at, |()| {});
     }
 }

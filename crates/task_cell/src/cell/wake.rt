@@ -1,5 +1,5 @@
 //! Waking the task, and the party that each call by a reference to a handle gets, by a load of the word.
-ghost use Rattle.std.specs.Prelude.{◌≡◌, ◌<◌, List, [], ◌∷◌, IfSome, IfOk, IfErr, false};
+ghost use Rattle.std.specs.Prelude.{◌≡◌, ◌<◌, List, [], ◌∷◌, IfSome, IfOk, IfErr, None, false};
 ghost use Rattle.task_core.specs.Word.{HasRoom};
 ghost use Rattle.task_steps.specs.Rule.{view, fresh};
 ghost use Rattle.task_steps.specs.Attempts.{HasChanged};
@@ -15,9 +15,9 @@ use std::alloc::Allocator;
 use std::sync::Wait;
 use task_core::Yields;
 use task_core::word::Word;
-use task_steps::attempt::TriedOnce;
+use task_steps::attempt::{Change, TriedOnce};
 use task_steps::table::Kept;
-use task_steps::waker::{Borrowing, Parting, WakingTask, Woken};
+use task_steps::waker::{Borrowing, Parting, WakingAnew, WakingTask, Woken};
 
 impl<R: Drop, F: Yields, Q: Drop, M: Drop, A: Drop, B: Allocator + Copy> Share<R, F, Q, M, A, B> {
     // The party of one call by reference, and the word that is found.
@@ -29,6 +29,21 @@ impl<R: Drop, F: Yields, Q: Drop, M: Drop, A: Drop, B: Allocator + Copy> Share<R
     {
         let (found, seat) = self.block.load_new_seat::<Borrowing>();
         (Word::from_bits(found), Party { seat })
+    }
+
+    // The party of a wake by reference, which has looked at the word, and that word. The error is the party where the task is over, and the wake has ended.
+    #[inline(always)]
+    fn look_to_wake(&self) -> Result<(Party<F, Kept<F>, A>, Word), Party<F, Kept<F>, A>>
+        ensures looks { IfOk result (λ looked. (p : _) × HasMade self.now [] p × Sees looked.1 p looked.0) }
+        ensures over { IfErr result (λ party. (p : _) × HasMade self.now [] p × WakesTask p party None) }
+    {
+        let (found, seat) = self.block.load_new_seat::<WakingAnew>();
+        let word = Word::from_bits(found);
+        if WakingTask::is_end(word, self.cell().limit) {
+            Err(Party { seat })
+        } else {
+            Ok((Party { seat }, word))
+        }
     }
 
     // What a wake leaves to be done that found this: where the task was idle, a share for a Runnable, and a deliverer, which is to hand it over.
@@ -69,7 +84,10 @@ impl<R: Drop, F: Yields, Q: Drop, M: Drop, A: Drop, B: Allocator + Copy> Share<R
         ensures share { IfOk result.1 (λ made. IfSome made (λ woken. cell_of woken.0 ≡ cell_of self.now)) }
         ensures again { IfErr result.1 (λ w. (p : _) × HasMade self.now [] p × Sees w p result.0) }
     {
-        let (word, mut party) = self.borrow();
+        let (mut party, word) = match self.look_to_wake() {
+            Ok(looked) => looked,
+            Err(party) => return (party, Ok(None)),
+        };
         match self.try_once::<WakingTask>(&mut party, word) {
             TriedOnce::Made(found, maybe) => {
                 let woken = self.deliverer_of(&mut party, found, maybe);
@@ -88,7 +106,10 @@ impl<R: Drop, F: Yields, Q: Drop, M: Drop, A: Drop, B: Allocator + Copy> Share<R
         ensures delivers { IfOk result (λ woken. IfOk woken (λ n. IsOf self.now n.1 × (limit_of n.1 ≡ limit_in self.now) × Stands as_runnable n.1)) }
         ensures nothing { IfOk result (λ woken. IfErr woken (λ party. (path : List Deed) × TaskWakePath false path × HasMade self.now path party)) }
     {
-        let (word, mut party) = self.borrow();
+        let (mut party, word) = match self.look_to_wake() {
+            Ok(looked) => looked,
+            Err(party) => return Ok(Err(party)),
+        };
         match self.attempt_some::<WakingTask>(&mut party, word, u64::MAX) {
             TriedOnce::Made(found, maybe) => {
                 let woken = self.deliverer_of(&mut party, found, maybe);

@@ -89,15 +89,15 @@ steps! {
     /// Whether the task is completed or closed.
     IsFinished of Lent = bits async_task_is_finished -> bool;
     /// The start of a run.
-    Starts of Scheduled = place async_task_start -> Started;
+    Starts of Scheduled = bits async_task_start -> Started;
     /// The drop of a Runnable, which closes the task.
     Discards of Scheduled = place async_task_discard => DROP_FUTURE At<DropsFuture, Discarded>;
     /// A Runnable that is handed to the schedule function.
     Schedules of Scheduled = place async_task_schedule => SCHEDULE At<HandsOn<false>>;
     /// A run whose poll was pending.
-    Pends of Polling = place async_task_pending -> Pended;
+    Pends of Polling = bits async_task_pending -> Pended;
     /// A run with its output stored.
-    Completes = place async_task_complete -> Completed;
+    Completes = bits async_task_complete -> Completed;
     /// A run whose output was dropped.
     OutputDropped = place async_task_output_dropped(bool: false) -> Leaving<RunTaken>;
     /// The same, with an awaiter that is due.
@@ -107,7 +107,7 @@ steps! {
     /// The same, where the task was closed while the poll went on.
     PendingClosed = place async_task_pending_closed -> Leaving<RunTaken>;
     /// A run that has emptied the awaiter's place.
-    RunTaken = place async_task_finish -> Finished;
+    RunTaken = bits async_task_finish -> Finished;
     /// A Runnable that is dropped, after the future was.
     Discarded = place async_task_discarded -> Leaving<DiscardTaken>;
     /// The same, after it has emptied the awaiter's place.

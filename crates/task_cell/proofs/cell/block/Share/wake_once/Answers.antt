@@ -1,28 +1,25 @@
-use Rattle.task_cell.proofs.Vocabulary.{◌∙◌}
-use Rattle.task_steps.specs.Standing.{as_lent}
-use Rattle.task_cell.proofs.WakerMoves.{fresh_stands, may_wake, wakes_over}
+use Rattle.task_cell.proofs.Vocabulary.{refl, ◌∙◌, to_wake}
+use Rattle.task_cell.proofs.Attempts.{bring_still, changed_after, ended_after, may_still, seeing_both}
+use Rattle.task_cell.proofs.WakerMoves.{lent_stands, may_wake, wakes_over}
 use Rattle.task_cell.proofs.cell.block.Share.wake_once.Goals as goal
 
 pub try_once-requires-clause-allowed : goal.try_once-requires-clause-allowed
-try_once-requires-clause-allowed g c = let p = c.borrow-word.result.1 in (may_wake _ _ _ _ _ p (fresh_stands as_lent _ p c.borrow-word.ensures.party)).0
+try_once-requires-clause-allowed g c = let s = c.in-Ok.ensures.looks in may_still _ _ _ _ s.0.seat.me _ to_wake c.in-Ok.looked.1 refl s.2.number s.2.seen (may_wake _ _ _ _ _ s.0 (lent_stands _ _ s.0 s.1)).0
 
 pub try_once-requires-clause-shares : goal.try_once-requires-clause-shares
-try_once-requires-clause-shares g c = let p = c.borrow-word.result.1 in (may_wake _ _ _ _ _ p (fresh_stands as_lent _ p c.borrow-word.ensures.party)).1
-
-pub deliverer_of-woken-requires-clause-cell : goal.deliverer_of-woken-requires-clause-cell
-deliverer_of-woken-requires-clause-cell g c = c.in-Made.ensures.seat.0 ∙ c.borrow-word.ensures.cell
+try_once-requires-clause-shares g c = let s = c.in-Ok.ensures.looks in bring_still _ _ _ s.0.seat.me _ to_wake c.in-Ok.looked.1 s.2.number s.2.seen (may_wake _ _ _ _ _ s.0 (lent_stands _ _ s.0 s.1)).1
 
 pub deliverer_of-woken-requires-clause-made : goal.deliverer_of-woken-requires-clause-made
-deliverer_of-woken-requires-clause-made g c = let p = c.borrow-word.result.1 in (p, fresh_stands as_lent _ p c.borrow-word.ensures.party, c.in-Made.ensures.tried)
+deliverer_of-woken-requires-clause-made g c = let s = c.in-Ok.ensures.looks in (s.0, lent_stands _ _ s.0 s.1, changed_after _ _ to_wake c.in-Ok.looked.1 c.in-Made.found s.0.seat.me _ _ refl s.2.seen c.in-Made.ensures.tried)
 
 pub returns-in-Made-clause-path : goal.returns-in-Made-clause-path
-returns-in-Made-clause-path g c = let p = c.borrow-word.result.1 in let b = c.borrow-word.ensures in
-    (p, (b.cell, b.party), c.deliverer_of-woken.ensures.path p (fresh_stands as_lent _ p b.party) c.in-Made.ensures.seat.0 c.in-Made.ensures.tried)
+returns-in-Made-clause-path g c = let s = c.in-Ok.ensures.looks in
+    (s.0, s.1, c.deliverer_of-woken.ensures.path s.0 (lent_stands _ _ s.0 s.1) (c.in-Made.ensures.seat.0 ∙ s.2.cell) (changed_after _ _ to_wake c.in-Ok.looked.1 c.in-Made.found s.0.seat.me _ _ refl s.2.seen c.in-Made.ensures.tried))
 
 pub returns-in-Ended-clause-path : goal.returns-in-Ended-clause-path
-returns-in-Ended-clause-path g c = let p = c.borrow-word.result.1 in let b = c.borrow-word.ensures in
-    (p, (b.cell, b.party), wakes_over _ _ p c.try_once.new.party (fresh_stands as_lent _ p b.party) c.in-Ended.ensures.seat.0 c.in-Ended.ensures.tried)
+returns-in-Ended-clause-path g c = let s = c.in-Ok.ensures.looks in
+    (s.0, s.1, wakes_over _ _ s.0 c.try_once.new.party (lent_stands _ _ s.0 s.1) (c.in-Ended.ensures.seat.0 ∙ s.2.cell) (ended_after _ _ to_wake c.in-Ok.looked.1 _ s.0.seat.me _ _ refl s.2.seen c.in-Ended.ensures.tried))
 
 pub returns-in-Again-clause-again : goal.returns-in-Again-clause-again
-returns-in-Again-clause-again g c = let b = c.borrow-word.ensures in let e = c.in-Again.ensures in
-    (c.borrow-word.result.1, (b.cell, b.party), record { cell = e.seat.0; number = e.seat.1; room = e.tried.0; seen = e.tried.1 })
+returns-in-Again-clause-again g c = let s = c.in-Ok.ensures.looks in let e = c.in-Again.ensures in
+    (s.0, s.1, record { cell = e.seat.0 ∙ s.2.cell; number = e.seat.1 ∙ s.2.number; room = e.tried.0; seen = seeing_both c.in-Ok.looked.1 _ s.0.seat.me _ _ s.2.seen e.tried.1 })
