@@ -362,9 +362,14 @@ class Exploration:
         return dict(outcome[1]) if outcome[0] == "Some" else None
 
     @functools.lru_cache(maxsize=None)
+    def lines(self, position):
+        """The acts that have a line of the table at this position, whatever the state is."""
+        return [act for act in self.acts if self.definitions("line", (act,), position)[0] == "Some"]
+
+    @functools.lru_cache(maxsize=None)
     def moves(self, scene, position):
         """The acts that the table allows, and what each leaves. The Task begins no more than so many polls."""
-        outcomes = ((act, self.outcome(scene, act, position)) for act in self.acts)
+        outcomes = ((act, self.outcome(scene, act, position)) for act in self.lines(position))
         return [(act, left) for act, left in outcomes if left and ("TaskPollBegins", POLLS + 1) not in items_of(left["told"])]
 
     def follow(self, state):
