@@ -14,7 +14,7 @@ ghost use Rattle.task_steps.specs.Standing.{as_ended};
 ghost use Rattle.task_steps.specs.Steps.{awaiter_first};
 
 use crate::answers::{DONE, ENDED, LAST, LAST_WAKE, OVER, TAKE, WAKE};
-use crate::bits::{Answer, Bits, close, open};
+use crate::bits::{self, Bits, close, open};
 use crate::hand::Hand;
 use crate::handle::{Handle, put, take};
 
@@ -107,14 +107,14 @@ pub fn finish_at(h: &mut Handle) -> u32
 
 /// Goes on with a run whose awaiter the caller has moved out of its place: 1 or 8, the call has ended; 9 or 15, it was the last handle; in 8 and 15 the awaiter is to be woken.
 #[unsafe(no_mangle)]
-pub extern "C" fn async_task_finish(h: Bits) -> Answer
+pub extern "C" fn async_task_finish(h: Bits) -> bits::Answer
     requires handle { IsLive h.hand }
     requires party { (awaiter : Option ℕ) × (y : _) × StandsWith (Releaser awaiter OfRun) (awaiter_first y []) h.hand.party × Waits awaiter y }
     ensures path { (awaiter : Option ℕ) × Finishes h.hand result.left.hand awaiter result.number }
 {
     let (hand, number) = finish(open(h));
     let left = close(hand);
-    Answer { number, left }
+    bits::Answer { number, left }
 }
 
 // Whether the cell has ended, as a number.
