@@ -106,27 +106,59 @@ impl<R: Drop, F: Yields, Q: Drop, M: Drop, A: Drop, B: Allocator + Copy> Share<R
         ensures delivers { IfOk result (λ woken. IfOk woken (λ n. IsOf self.now n.1 × (limit_of n.1 ≡ limit_in self.now) × Stands as_runnable n.1)) }
         ensures nothing { IfOk result (λ woken. IfErr woken (λ party. (path : List Deed) × TaskWakePath false path × HasMade self.now path party)) }
     {
-        let (mut party, word) = match self.look_to_wake() {
-            Ok(looked) => looked,
-            Err(party) => return Ok(Err(party)),
-        };
-        match self.attempt_some::<WakingTask>(&mut party, word, u64::MAX) {
+        let (party, woken) = self.wake_once();
+        match woken {
+            Ok(made) => Ok(self.woken(party, made)),
+            Err(word) => self.wake_more(party, word),
+        }
+    }
+
+    // The same once the first try has missed, and has left this word.
+    #[cold]
+    #[inline(never)]
+    fn wake_more(
+        &self,
+        mut party: Party<F, Kept<F>, A>,
+        word: Word,
+    ) -> Result<Result<(Self, Party<F, Kept<F>, A>), Party<F, Kept<F>, A>>, ()>
+        requires party { (p : _) × HasMade self.now [] p × Sees word p party }
+        ensures share { IfOk result (λ woken. IfOk woken (λ n. cell_of n.0 ≡ cell_of self.now)) }
+        ensures delivers { IfOk result (λ woken. IfOk woken (λ n. IsOf self.now n.1 × (limit_of n.1 ≡ limit_in self.now) × Stands as_runnable n.1)) }
+        ensures nothing { IfOk result (λ woken. IfErr woken (λ party. (path : List Deed) × TaskWakePath false path × HasMade self.now path party)) }
+    {
+        match self.attempt_some::<WakingTask>(&mut party, word, u64::MAX - 1) {
             TriedOnce::Made(found, maybe) => {
-                let woken = self.deliverer_of(&mut party, found, maybe);
-                match woken {
-                    Some((share, deliverer)) => {
-                        let Party { seat: _ } = party;
-                        let runnable = self.runnable_of(deliverer);
-                        Ok(Ok((share, runnable)))
-                    }
-                    None => Ok(Err(party)),
-                }
+                let made = self.deliverer_of(&mut party, found, maybe);
+                Ok(self.woken(party, made))
             }
             TriedOnce::Ended(_, ()) => Ok(Err(party)),
             TriedOnce::Again(_, ()) => {
                 let Party { seat: _ } = party;
                 Err(())
             }
+        }
+    }
+
+    // What a wake answers that has been made: the Runnable of its deliverer, or its own party, where there is none.
+    #[inline(always)]
+    fn woken(
+        &self,
+        party: Party<F, Kept<F>, A>,
+        made: Option<(Self, Party<F, Kept<F>, A>)>,
+    ) -> Result<(Self, Party<F, Kept<F>, A>), Party<F, Kept<F>, A>>
+        requires path { (p : _) × HasMade self.now [] p × WakesTask p party (second made) }
+        requires share { IfSome made (λ woken. cell_of woken.0 ≡ cell_of self.now) }
+        ensures share { IfOk result (λ n. cell_of n.0 ≡ cell_of self.now) }
+        ensures delivers { IfOk result (λ n. IsOf self.now n.1 × (limit_of n.1 ≡ limit_in self.now) × Stands as_runnable n.1) }
+        ensures nothing { IfErr result (λ party. (path : List Deed) × TaskWakePath false path × HasMade self.now path party) }
+    {
+        match made {
+            Some((share, deliverer)) => {
+                let Party { seat: _ } = party;
+                let runnable = self.runnable_of(deliverer);
+                Ok((share, runnable))
+            }
+            None => Err(party),
         }
     }
 
