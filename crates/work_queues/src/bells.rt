@@ -11,7 +11,7 @@
 //! | `Woken` | the step by which that worker is no more asleep | `ring` |
 //! | `Heard` | `hear` | `answer`, `pass_on` |
 //!
-//! What a call has done, it answers as a value that only the step makes: `Due`, `NotDue`, `Interrupted`, `NothingShown`.
+//! What a call has done, it answers as a value that only the step makes: `Due`, `NotDue`, `Interrupted`, `NothingShown`, `Parked`, `Unparked`.
 ghost use Rattle.std.specs.Prelude.{◌≡◌, ◌≢◌, ℕ, ◌+◌, ◌*◌, ◌<◌, ◌≤◌, [], IfOk, length, slice_index, min, max};
 ghost use Rattle.work_queues.specs.Sleep.{padding, blank, owing, searches, due, not_due, taken};
 
@@ -25,9 +25,10 @@ mod waking;
 use crate::view::View;
 use crate::watch::{Enter, Sleep};
 use atomic_table::Table;
+pub use resting::Parked;
 use std::alloc::{AllocError, Global};
 use std::sync::atomic::AtomicU64;
-pub use waking::Woken;
+pub use waking::{Unparked, Woken};
 
 /// The most workers of a pool.
 pub const MOST_WORKERS: usize = 1024;

@@ -10,6 +10,12 @@ pub struct Woken {
     worker: usize,
 }
 
+/// The kernel was told to wake a thread that sleeps on this word.
+#[derive(Drop)]
+pub struct Unparked {
+    word: usize,
+}
+
 impl Woken {
     /// The number of the worker.
     pub fn worker(&self) -> usize
@@ -52,12 +58,21 @@ impl Bells {
         None
     }
 
-    /// Wakes the thread of a worker that a step has woken. It is one call of the kernel, of which nothing is claimed.
-    pub fn ring(&self, woken: Woken)
+    /// Wakes the thread of a worker that a step has woken. What the kernel does, no clause says.
+    pub fn ring(&self, woken: Woken) -> Unparked
         requires { woken.worker < self.now.workers }
+        ensures { result.word ≡ padding * (self.now.workers + 2 + woken.worker) }
     {
         let Woken { worker } = woken;
-        let word = self.worker_word(worker);
+        self.unpark(self.worker_word(worker))
+    }
+
+    // The call of the kernel, and what it was called with.
+    fn unpark(&self, word: usize) -> Unparked
+        requires { word < self.now.table.shared.table_id.words }
+        ensures { result.word ≡ word }
+    {
         self.table.shared.wake_one(word);
+        Unparked { word }
     }
 }

@@ -9,7 +9,7 @@ ghost use Rattle.work_queues.specs.Board.{room, HasQueue};
 ghost use Rattle.work_queues.specs.Shelf.{IsShelved};
 
 use super::{Board, LOCKED, UNLOCKED, Visit, Visited};
-use crate::bells::{Bells, PADDING, Woken};
+use crate::bells::{Bells, PADDING, Unparked, Woken};
 use crate::queue::Queue;
 use crate::rule::{Lock, Sit, Unlock};
 use atomic_table::{Refused, Table};
@@ -65,10 +65,11 @@ impl<T, A: Allocator> Board<T, A> {
     }
 
     /// Wakes the thread of a worker that a call of this board has answered: `Bells::ring`.
-    pub fn ring(&self, woken: Woken)
+    pub fn ring(&self, woken: Woken) -> Unparked
         requires { woken.worker < (arc_value self.now.bells).workers }
+        ensures { result.word ≡ padding * ((arc_value self.now.bells).workers + 2 + woken.worker) }
     {
-        self.bells.ring(woken);
+        self.bells.ring(woken)
     }
 
     /// Puts an item at the back of a queue, and answers the worker that is to be woken. `Err` hands the item back, where the queue was full and there was no memory for more.

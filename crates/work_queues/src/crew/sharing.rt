@@ -31,10 +31,11 @@ impl<T, A: Allocator> Crew<T, A> {
     }
 
     /// Gives room back to which nothing came: `Board::release`.
-    pub fn release(&self, reserved: Reserved<T, A>)
+    pub fn release(&self, reserved: Reserved<T, A>) -> Visited
         requires { HasRoom self.now.board reserved }
+        ensures { result.queue ≡ reserved.queue }
     {
-        self.board.release(reserved);
+        self.board.release(reserved)
     }
 
     /// Waits at each queue until no thread that had reserved room there before has it any more.
