@@ -288,8 +288,8 @@ def take():
 
 
 # A WAIT IN THE POOL: the columns, and by sections each message from one to another. The order is that of `await_kept` and `wake_posted` in kept.rt, of
-# `wake_by_ref` in bell_awaiter.rt, of `await_within` and `turn` in turns.rt, of `schedule` in pool.rt, and of `rest` and `sleep` in
-# crew.rt of work_queues
+# `wake_by_ref` in bell_awaiter.rt, of `await_within` and `turn` in turns.rt, of `schedule` in pool.rt, and in crew of work_queues
+# of `rest` in resting.rt and `lie_down` in worker.rt
 COLUMNS = {
     "task": (72, ("the task", "that waits")),
     "store": (204, ("store", "of wakers")),

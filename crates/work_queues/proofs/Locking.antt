@@ -1,5 +1,5 @@
 -- Each step on a board keeps its rule.
-use Rattle.std.proofs.Common.{◌≡◌, ◌≢◌, ℕ, zero, suc, ◌+◌, ◌*◌, ◌<◌, ◌≤◌, ◌⊎◌, List, [], ◌∷◌, ◌++◌, map, length, drop, get_or, set, sym, refl, ap, ◌∙◌, subst, inl, inr, ⊎_elim, arith, length-set, get_or-set_other, get_or-set_same, eqb}
+use Rattle.std.proofs.Common.{◌≡◌, ◌≢◌, ℕ, zero, suc, ◌+◌, ◌*◌, ◌<◌, ◌≤◌, List, [], ◌∷◌, ◌++◌, map, length, drop, get_or, set, sym, refl, ap, ◌∙◌, subst, ⊎_elim, arith, length-set, get_or-set_other, get_or-set_same, eqb}
 use Rattle.std.proofs.lemmas.List.{length-map}
 use mathlib.Core.Logic.{dite}
 use mathlib.Core.Option.{Option, none, some, some-injective, some-ne-none}
@@ -77,29 +77,29 @@ module _ (S : Type 0) (P : TableId → ℕ → S → Type 0) (bells : TableId) (
 
   unlocks_as : (slots id : ℕ) (v : Room) (x i : ℕ) (queue : S) → x ≡ padding * i → i ≤ n → P bells i queue
       → Allows (Orderly P bells n) slots id (v, (i, queue) ∷ []) x (λ _. 0) (λ _. Unlocks (step slots x 0 0 none) (v, (i, queue) ∷ []) 0)
-  unlocks_as slots id v x i queue is near shelved s o many mine small = let all = o.stored in (
+  unlocks_as slots id v x i queue is near stored s o many mine small = let all = o.stored in (
     v,
     gives,
     tt,
     subst (λ (y : ℕ). Orderly P bells n (board (set s.words y 0) (set s.homes i (some queue)) (set s.views id v))) (sym is)
-        (at_queue s o i 0 (some queue) id v near mine (λ _. (queue, set_here s.homes i (some queue) (omega arith), shelved))),
+        (at_queue s o i 0 (some queue) id v near mine (λ _. (queue, set_here s.homes i (some queue) (omega arith), stored))),
     refl,
   )
 
   pub unlocks : (slots id : ℕ) (me : Me S Room) (x i : ℕ) (queue : S) → x ≡ padding * i → i ≤ n → me.1 ≡ (i, queue) ∷ [] → P bells i queue
       → Allows (Orderly P bells n) slots id me x (λ _. 0) (λ _. Unlocks (step slots x 0 0 none) me 0)
-  unlocks slots id me x i queue is near has shelved =
-      subst (λ (m : Me S Room). Allows (Orderly P bells n) slots id m x (λ _. 0) (λ _. Unlocks (step slots x 0 0 none) m 0)) (ap (λ (l : List (ℕ × S)). (me.0, l)) (sym has)) (unlocks_as slots id me.0 x i queue is near shelved)
+  unlocks slots id me x i queue is near has stored =
+      subst (λ (m : Me S Room). Allows (Orderly P bells n) slots id m x (λ _. 0) (λ _. Unlocks (step slots x 0 0 none) m 0)) (ap (λ (l : List (ℕ × S)). (me.0, l)) (sym has)) (unlocks_as slots id me.0 x i queue is near stored)
 
-  shelves : (l : List S) (i : ℕ) → i < length l → ((k : ℕ) (queue : S) → get_elem? l k ≡ some queue → P bells k queue) → (queue : S) × (get_elem? (map some l) i ≡ some (some queue)) × P bells i queue
-  shelves l i lt each = let t = at_some l i lt in (t.0, at_map some l i t.0 t.1, each i t.0 t.1)
+  stored_each : (l : List S) (i : ℕ) → i < length l → ((k : ℕ) (queue : S) → get_elem? l k ≡ some queue → P bells k queue) → (queue : S) × (get_elem? (map some l) i ≡ some (some queue)) × P bells i queue
+  stored_each l i lt each = let t = at_some l i lt in (t.0, at_map some l i t.0 t.1, each i t.0 t.1)
 
   pub opens : (words : List ℕ) (queues : List S) → length words ≡ padding * (n + 1) → length queues ≡ n + 1 → ((i : ℕ) (queue : S) → get_elem? queues i ≡ some queue → P bells i queue) → Orderly P bells n (opening words queues (room bells))
   opens words queues long many each = record {
     sized = long;
     stored = length-map queues some ∙ many;
     known = λ port v atv. at_one (room bells) port v atv;
-    home = λ i le _. shelves queues i (omega arith) each;
+    home = λ i le _. stored_each queues i (omega arith) each;
   }
 
 -- an item more at the end of a list, where P holds of each item and its number
@@ -119,7 +119,7 @@ between [] b (x ∷ c) d cut le = absurd (omega arith)
 between {A} (y ∷ a) b (x ∷ c) d cut le = let t = between a b c d (ap (drop 1) cut) (omega arith) in
     (t.0, ap (λ (l : List A). y ∷ l) t.1 ∙ ap (λ (z : A). z ∷ c ++ t.0) (some-injective y x (ap (λ (l : List A). get_elem? l 0) cut)), t.2)
 
--- a seat that locked a queue has it alone, as it was shelved
+-- a seat that locked a queue has it alone, as it was stored
 pub locked : {S : Type 0} (P : TableId → ℕ → S → Type 0) (bells : TableId) (i : ℕ) (before after : Me S Room) → (queue : S) × (after ≡ (before.0, (i, queue) ∷ before.1)) × P before.0.bells i queue → before ≡ (room bells, []) → (queue : S) × HasQueue i after queue × P bells i queue
 locked {S} P bells i before after told was =
     (told.0, ap (λ (m : Me S Room). m.1) told.1 ∙ ap (λ (m : Me S Room). (i, told.0) ∷ m.1) was, subst (λ (m : Me S Room). P m.0.bells i told.0) was told.2)
@@ -130,5 +130,5 @@ module _ {S : Type 0} where
   lends i slots held has = (held, has ∙ ap (λ (l : List (ℕ × S)). (i, held) ∷ l) (sym (ap rest has)))
 
   -- it has that queue alone when the loan is over
-  pub shelves_again : (P : TableId → ℕ → S → Type 0) (bells : TableId) (i : ℕ) (slots : List (ℕ × S)) (held left : S) → slots ≡ (i, held) ∷ [] → P bells i left → (queue : S) × (◌≡◌ {A = List (ℕ × S)} ((i, left) ∷ rest slots) ((i, queue) ∷ [])) × P bells i queue
-  shelves_again P bells i slots held left has shelved = (left, ap (λ (l : List (ℕ × S)). (i, left) ∷ l) (ap rest has), shelved)
+  pub stored_again : (P : TableId → ℕ → S → Type 0) (bells : TableId) (i : ℕ) (slots : List (ℕ × S)) (held left : S) → slots ≡ (i, held) ∷ [] → P bells i left → (queue : S) × (◌≡◌ {A = List (ℕ × S)} ((i, left) ∷ rest slots) ((i, queue) ∷ [])) × P bells i queue
+  stored_again P bells i slots held left has stored = (left, ap (λ (l : List (ℕ × S)). (i, left) ∷ l) (ap rest has), stored)

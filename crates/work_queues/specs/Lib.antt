@@ -2,5 +2,4 @@ pub mod Board
 pub mod Duties
 pub mod Rooms
 pub mod Settled
-pub mod Shelf
 pub mod Sleep

@@ -1,15 +1,61 @@
 -- The rule of sleep of n workers, and what each step on it tells.
--- Words are counted in steps of `padding`: at step i up to n is the flag of queue i, at n + 1 that of interruptions, at n + 2 + j the word of worker j, at 2 n + 2 that of the searcher, at 2 n + 3 how many workers count as sleepers.
--- A flag: 0 nothing is shown, 1 something is, 4 nobody has it yet. A worker: 0 awake, 1 asleep, 2 awake with an interruption of its own, 3 woken, 4 no thread has it.
-use Rattle.std.specs.Prelude.{◌≡◌, ◌≢◌, ℕ, zero, suc, ◌+◌, ◌*◌, ◌<◌, ◌≤◌, ◌⊎◌, List, [], ◌∷◌, length, slice_index, Bool, true, false}
-use mathlib.Core.Option.{Option, some}
+use Rattle.std.specs.Prelude.{◌≡◌, ◌≢◌, ℕ, zero, suc, ◌+◌, ◌*◌, ◌<◌, ◌≤◌, ◌⊎◌, List, [], ◌∷◌, length, slice_index}
+use mathlib.Core.Option.{some}
 use lib.ListN.{get_elem?}
 use Rattle.atomic_table.specs.Table.{State, Me, Step}
 use Rattle.work_queues.specs.declared.view.View.{View}
 
--- how many words a step has: one that is used, and others that give it a cache line of its own
+-- how far apart words are: one that is used, and others that give it a cache line of its own
 abbrev pub padding : ℕ
 padding = 16
+
+-- the word of a flag: flags up to n are those of queues, and n + 1 is that of interruptions
+abbrev pub flag_word : ℕ → ℕ
+flag_word i = padding * i
+
+-- the word of worker j, behind those of the flags
+abbrev pub worker_word : ℕ → ℕ → ℕ
+worker_word n j = padding * (n + 2 + j)
+
+-- the word that shows whether a worker searches, behind those that a seat can have the right to
+abbrev pub searcher_word : ℕ → ℕ
+searcher_word n = padding * (n + n + 2)
+
+-- the word that shows how many workers count as sleepers
+abbrev pub sleepers_word : ℕ → ℕ
+sleepers_word n = padding * (n + n + 3)
+
+-- how many words there are
+abbrev pub word_count : ℕ → ℕ
+word_count n = padding * (n + n + 4)
+
+-- a flag shows nothing
+abbrev pub hidden : ℕ
+hidden = 0
+
+-- a flag shows something
+abbrev pub shown : ℕ
+shown = 1
+
+-- a worker is awake
+abbrev pub awake : ℕ
+awake = 0
+
+-- a worker is asleep
+abbrev pub asleep : ℕ
+asleep = 1
+
+-- a worker is awake, and was interrupted
+abbrev pub interrupted : ℕ
+interrupted = 2
+
+-- a worker was asleep, and a wake is on its way to it
+abbrev pub woken : ℕ
+woken = 3
+
+-- nobody has the right to the word of a flag or a worker
+abbrev pub free : ℕ
+free = 4
 
 -- what a seat has, owes and knows, by its numbers
 abbrev pub view : ℕ → ℕ → ℕ → ℕ → ℕ → ℕ → ℕ → ℕ → ℕ → View
@@ -31,9 +77,13 @@ not_due = 2
 abbrev pub taken : ℕ
 taken = 3
 
+-- one word by its number, where 0 is none
+abbrev pub this : ℕ → ℕ
+this word = suc word
+
 -- the right to the word of this number: a flag that shows so much, or a worker
 abbrev pub has_right : ℕ → ℕ → View
-has_right word value = view (suc word) value 0 0 0 0 0 0 0
+has_right word value = view (this word) value 0 0 0 0 0 0 0
 
 -- a look is owed at each flag and at each worker
 abbrev pub owing : View → View
@@ -59,9 +109,9 @@ sees v seen = view v.right v.value v.owes seen v.from v.searching v.asleep v.int
 abbrev pub searches : View → ℕ → View
 searches v searching = view v.right v.value v.owes v.seen v.from searching v.asleep v.interruption v.interrupted
 
--- it counts as no sleeper, at 0, as one, at 1, or put a worker to sleep, at one more than its word, or found it interrupted, at two more
+-- it counts as no sleeper, at 0, as one, at 1, or put the worker of this word to sleep, or found it interrupted, at one more
 abbrev pub sleeps : View → ℕ → View
-sleeps v asleep = view v.right v.value v.owes v.seen v.from v.searching asleep v.interruption v.interrupted
+sleeps v sleep = view v.right v.value v.owes v.seen v.from v.searching sleep v.interruption v.interrupted
 
 -- it knows this of the interruption
 abbrev pub knows : View → ℕ → View
@@ -69,7 +119,7 @@ knows v interruption = view v.right v.value v.owes v.seen v.from v.searching v.a
 
 -- it has interrupted the worker that has the word of this number
 abbrev pub interrupts : View → ℕ → View
-interrupts v word = view v.right v.value v.owes v.seen v.from v.searching v.asleep v.interruption (suc word)
+interrupts v word = view v.right v.value v.owes v.seen v.from v.searching v.asleep v.interruption (this word)
 
 -- 1 for a seat that counts as a sleeper
 abbrev pub one : ℕ → ℕ
@@ -85,30 +135,39 @@ sleepers (v ∷ vs) = one v.asleep + sleepers vs
 abbrev pub AnySeat : (View → Type 0) → List View → Type 0
 AnySeat P views = (port : ℕ) × (v : View) × (get_elem? views port ≡ some v) × P v
 
+-- it is the searcher
+abbrev pub Searches : View → Type 0
+Searches v = v.searching ≡ 1
+
+-- it put this worker of n to sleep
+abbrev pub Sleeps : ℕ → ℕ → View → Type 0
+Sleeps n j v = v.asleep ≡ this (worker_word n j)
+
 -- it owes this flag a look for this worker
 abbrev pub Owes : ℕ → ℕ → View → Type 0
 Owes i j v = (v.owes ≡ 1) × (v.seen ≤ i) × (v.from ≤ j)
 
 -- a wake is on its way to a worker
 abbrev pub IsWoken : ℕ → List ℕ → Type 0
-IsWoken n words = (k : ℕ) × (k < n) × (slice_index words (padding * (n + 2 + k)) ≡ 3)
+IsWoken n words = (k : ℕ) × (k < n) × (slice_index words (worker_word n k) ≡ woken)
 
 module _ {S : Type 0} where
   -- the rule: no worker sleeps on while an item is shown or an interruption due, unless a wake, a search or a look is to come
   pub record Watch (n : ℕ) (s : State S View) : Type 0 where
-    pub sized : length s.words ≡ padding * (n + n + 4)
+    pub sized : length s.words ≡ word_count n
     -- nobody has the right to a word that shows so
-    pub free : (x port : ℕ) (v : View) → x < padding * (n + n + 2) → slice_index s.words x ≡ 4 → get_elem? s.views port ≡ some v → v.right ≢ suc x
+    pub unowned : (x port : ℕ) (v : View) → x < searcher_word n → slice_index s.words x ≡ free → get_elem? s.views port ≡ some v → v.right ≢ this x
     -- no two have the right to one word
-    pub alone : (x port other : ℕ) (v w : View) → get_elem? s.views port ≡ some v → get_elem? s.views other ≡ some w → v.right ≡ suc x → w.right ≡ suc x → port ≡ other
+    pub alone : (x port other : ℕ) (v w : View) → get_elem? s.views port ≡ some v → get_elem? s.views other ≡ some w → v.right ≡ this x → w.right ≡ this x → port ≡ other
     -- who has the right to the flag of a queue knows what it shows
-    pub known : (i port : ℕ) (v : View) → i ≤ n → get_elem? s.views port ≡ some v → v.right ≡ suc (padding * i) → slice_index s.words (padding * i) ≡ v.value
-    pub named : slice_index s.words (padding * (n + n + 2)) ≢ 0 → AnySeat (λ v. v.searching ≡ 1) s.views
-    pub counted : sleepers s.views ≡ slice_index s.words (padding * (n + n + 3))
-    pub lain : (j : ℕ) → j < n → slice_index s.words (padding * (n + 2 + j)) ≡ 1 → AnySeat (λ v. v.asleep ≡ suc (padding * (n + 2 + j))) s.views
+    pub known : (i port : ℕ) (v : View) → i ≤ n → get_elem? s.views port ≡ some v → v.right ≡ this (flag_word i) → slice_index s.words (flag_word i) ≡ v.value
+    -- while the word says that a worker searches, a seat is the searcher
+    pub named : slice_index s.words (searcher_word n) ≢ 0 → AnySeat Searches s.views
+    pub counted : sleepers s.views ≡ slice_index s.words (sleepers_word n)
+    -- a seat put the worker to sleep that is asleep
+    pub lain : (j : ℕ) → j < n → slice_index s.words (worker_word n j) ≡ asleep → AnySeat (Sleeps n j) s.views
     -- while a queue shows an item, or an interruption is due, and a worker sleeps: a wake is on its way to a worker, or one searches, or somebody owes that flag a look for the sleeper
-    pub watched : (i j : ℕ) → i ≤ suc n → j < n → slice_index s.words (padding * i) ≡ 1 → slice_index s.words (padding * (n + 2 + j)) ≡ 1
-        → IsWoken n s.words ⊎ (AnySeat (λ v. v.searching ≡ 1) s.views ⊎ AnySeat (Owes i j) s.views)
+    pub watched : (i j : ℕ) → i ≤ suc n → j < n → slice_index s.words (flag_word i) ≡ shown → slice_index s.words (worker_word n j) ≡ asleep → IsWoken n s.words ⊎ (AnySeat Searches s.views ⊎ AnySeat (Owes i j) s.views)
 
   -- a load or an exchange that changes the seat only where it found this number
   abbrev pub Finds : ℕ → (View → View) → (View → View) → Me S View → ℕ → Me S View → Type 0
@@ -132,19 +191,19 @@ module _ {S : Type 0} where
 
   -- the flag of a queue shows an item, and all looks are owed
   abbrev pub Shows : Step S → Me S View → ℕ → Me S View → Type 0
-  Shows step before found after = after ≡ (owing (has_right step.word 1), before.1)
+  Shows step before found after = after ≡ (owing (has_right step.word shown), before.1)
 
   -- the flag of a queue shows no item
   abbrev pub Hides : Step S → Me S View → ℕ → Me S View → Type 0
-  Hides step before found after = after ≡ (has_right step.word 0, before.1)
+  Hides step before found after = after ≡ (has_right step.word hidden, before.1)
 
   -- an interruption is due, and all looks are owed
   abbrev pub Interrupts : Step S → Me S View → ℕ → Me S View → Type 0
-  Interrupts step before found after = (step.first ≡ 1) × (after ≡ (owing (knows before.0 due), before.1))
+  Interrupts step before found after = (step.first ≡ shown) × (after ≡ (owing (knows before.0 due), before.1))
 
   -- a look whether an interruption is due
   abbrev pub LooksWhetherDue : Step S → Me S View → ℕ → Me S View → Type 0
-  LooksWhetherDue step before found after = Finds 1 (λ v. knows v due) (λ v. knows v not_due) before found after
+  LooksWhetherDue step before found after = Finds shown (λ v. knows v due) (λ v. knows v not_due) before found after
 
   -- the interruption that was due is taken
   abbrev pub Hears : Step S → Me S View → ℕ → Me S View → Type 0
@@ -152,11 +211,11 @@ module _ {S : Type 0} where
 
   -- unless the worker was asleep, it was interrupted: where it was awake, its word says so
   abbrev pub Permits : Step S → Me S View → ℕ → Me S View → Type 0
-  Permits step before found after = (step.first ≡ 0) × (step.second ≡ 2) × Finds 1 (λ v. v) (λ v. interrupts v step.word) before found after
+  Permits step before found after = (step.first ≡ awake) × (step.second ≡ interrupted) × Finds asleep (λ v. v) (λ v. interrupts v step.word) before found after
 
   -- the worker was interrupted: where it was asleep, its word says woken, which the seat knows
   abbrev pub Rouses : Step S → Me S View → ℕ → Me S View → Type 0
-  Rouses step before found after = (step.first ≡ 1) × (step.second ≡ 3) × Finds 1 (λ v. knows (interrupts v step.word) roused) (λ v. interrupts v step.word) before found after
+  Rouses step before found after = (step.first ≡ asleep) × (step.second ≡ woken) × Finds asleep (λ v. knows (interrupts v step.word) roused) (λ v. interrupts v step.word) before found after
 
   -- a look whether a worker sleeps: where none does, no look is owed, and else all are
   abbrev pub LooksForSleepers : Step S → Me S View → ℕ → Me S View → Type 0
@@ -168,15 +227,15 @@ module _ {S : Type 0} where
 
   -- a look at one worker: where it is not asleep, the next one is due
   abbrev pub LooksAtWorker : Step S → Me S View → ℕ → Me S View → Type 0
-  LooksAtWorker step before found after = Finds 1 (λ v. v) (λ v. left_of v v.seen (suc v.from)) before found after
+  LooksAtWorker step before found after = Finds asleep (λ v. v) (λ v. left_of v v.seen (suc v.from)) before found after
 
   -- a worker that sleeps is woken, and no look is owed; where it was not asleep, the next one is due
   abbrev pub Wakes : Step S → Me S View → ℕ → Me S View → Type 0
-  Wakes step before found after = Finds 1 paid (λ v. left_of v v.seen (suc v.from)) before found after
+  Wakes step before found after = Finds asleep paid (λ v. left_of v v.seen (suc v.from)) before found after
 
   -- a look at one flag: where it shows nothing, the next one is due
   abbrev pub LooksAtFlag : Step S → Me S View → ℕ → Me S View → Type 0
-  LooksAtFlag step before found after = Finds 1 (λ v. v) (λ v. sees v (suc v.seen)) before found after
+  LooksAtFlag step before found after = Finds shown (λ v. v) (λ v. sees v (suc v.seen)) before found after
 
   -- all looks that were owed are done, at the flags that it has looked at
   abbrev pub Settles : Step S → Me S View → ℕ → Me S View → Type 0
@@ -196,7 +255,7 @@ module _ {S : Type 0} where
 
   -- a worker is asleep, and all looks are owed, unless it was interrupted, which the seat knows
   abbrev pub LiesDown : Step S → Me S View → ℕ → Me S View → Type 0
-  LiesDown step before found after = Finds 0 (λ v. owing (sleeps v (suc step.word))) (λ v. sleeps v (suc (suc step.word))) before found after
+  LiesDown step before found after = Finds awake (λ v. owing (sleeps v (this step.word))) (λ v. sleeps v (suc (this step.word))) before found after
 
   -- a worker is awake, and all looks are owed
   abbrev pub GetsUp : Step S → Me S View → ℕ → Me S View → Type 0

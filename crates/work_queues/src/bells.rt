@@ -11,23 +11,24 @@
 //! | `Woken` | the step by which that worker is no more asleep | `ring` |
 //! | `Heard` | `hear` | `answer`, `pass_on` |
 //!
-//! What a call has done, it answers as a value that only the step makes: `Due`, `NotDue`, `Interrupted`, `NothingShown`.
+//! What a call has done, it answers as a value that only the step makes: `Due`, `NotDue`, `Interrupted`, `NothingShown`, `Parked`, `Unparked`.
 ghost use Rattle.std.specs.Prelude.{◌≡◌, ◌≢◌, ℕ, ◌+◌, ◌*◌, ◌<◌, ◌≤◌, [], IfOk, length, slice_index, min, max};
-ghost use Rattle.work_queues.specs.Sleep.{padding, blank, owing, searches, due, not_due, taken};
+ghost use Rattle.work_queues.specs.Sleep.{blank, owing, searches, due, not_due, taken, flag_word, worker_word, searcher_word, sleepers_word, word_count};
 
-mod calling;
 mod claims;
 mod flags;
 mod interruptions;
+mod looks;
 mod resting;
 mod waking;
 
 use crate::view::View;
 use crate::watch::{Enter, Sleep};
 use atomic_table::Table;
+pub use resting::Parked;
 use std::alloc::{AllocError, Global};
 use std::sync::atomic::AtomicU64;
-pub use waking::Woken;
+pub use waking::{Unparked, Woken};
 
 /// The most workers of a pool.
 pub const MOST_WORKERS: usize = 1024;
@@ -67,7 +68,7 @@ pub struct Bells {
     workers: usize,
     // How many interruptions there were.
     interruptions: AtomicU64,
-    ghost sized: { (table.shared.table_id.words ≡ padding * (workers + workers + 4)) × (table.shared.key ≡ workers) × (0 < workers) × (workers ≤ 1024) },
+    ghost sized: { (table.shared.table_id.words ≡ word_count workers) × (table.shared.key ≡ workers) × (0 < workers) × (workers ≤ 1024) },
 }
 
 /// The right to the flag of a queue. It lies beside the queue.
@@ -144,7 +145,7 @@ pub struct AllInterrupted {
 // What a word of this number shows at first: flags of queues and workers are free.
 fn first_word(number: usize, workers: usize) -> u64
     requires { workers ≤ 1024 }
-    ensures { (result ≢ 1) × (padding * (workers + workers + 2) ≤ number → result ≡ 0) }
+    ensures { (result ≢ 1) × (searcher_word workers ≤ number → result ≡ 0) }
 {
     if number < PADDING * (workers + workers + 2) && number != PADDING * (workers + 1) {
         FREE
@@ -155,7 +156,7 @@ fn first_word(number: usize, workers: usize) -> u64
 
 fn first_words(alloc: Global, workers: usize) -> Result<Vec<u64>, AllocError>
     requires { workers ≤ 1024 }
-    ensures { IfOk result (λ words. (length words.items ≡ padding * (workers + workers + 4)) × ((i : ℕ) → slice_index words.items i ≢ 1) × ((i : ℕ) → padding * (workers + workers + 2) ≤ i → slice_index words.items i ≡ 0)) }
+    ensures { IfOk result (λ words. (length words.items ≡ word_count workers) × ((i : ℕ) → slice_index words.items i ≢ 1) × ((i : ℕ) → searcher_word workers ≤ i → slice_index words.items i ≡ 0)) }
 {
     let mut words = Vec::new(alloc);
     for number in 0..PADDING * (workers + workers + 4) {
@@ -197,26 +198,26 @@ impl Bells {
     // The word of a flag: those of queues have the numbers of these, and that of interruptions the next one.
     fn flag_word(&self, flag: usize) -> usize
         requires { flag ≤ self.now.workers + 1 }
-        ensures { result ≡ padding * flag }
+        ensures { result ≡ flag_word flag }
     {
         PADDING * flag
     }
 
     fn worker_word(&self, worker: usize) -> usize
         requires { worker < self.now.workers }
-        ensures { result ≡ padding * (self.now.workers + 2 + worker) }
+        ensures { result ≡ worker_word self.now.workers worker }
     {
         PADDING * (self.workers + 2 + worker)
     }
 
     fn searcher_word(&self) -> usize
-        ensures { result ≡ padding * (self.now.workers + self.now.workers + 2) }
+        ensures { result ≡ searcher_word self.now.workers }
     {
         PADDING * (self.workers + self.workers + 2)
     }
 
     fn sleepers_word(&self) -> usize
-        ensures { result ≡ padding * (self.now.workers + self.now.workers + 3) }
+        ensures { result ≡ sleepers_word self.now.workers }
     {
         PADDING * (self.workers + self.workers + 3)
     }

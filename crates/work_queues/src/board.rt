@@ -7,8 +7,8 @@ ghost use lib.ListN.{get_elem?};
 ghost use Rattle.work_queues.specs.Sleep.{padding};
 
 mod looks;
-mod rooms;
-mod shelves;
+mod queues;
+mod reserving;
 
 use crate::bells::{Bells, PADDING};
 use crate::queue::Queue;
@@ -16,7 +16,7 @@ use crate::room::Room;
 use crate::rule::Order;
 use atomic_table::Table;
 pub(crate) use looks::pause;
-pub use rooms::Reserved;
+pub use reserving::Reserved;
 use std::alloc::{Allocator, Global};
 use std::sync::Arc;
 

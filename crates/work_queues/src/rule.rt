@@ -1,6 +1,6 @@
 //! The rule of a board, and the names of the steps on it.
 ghost use Rattle.work_queues.specs.Board.{Orderly, room, Sits, Locks, Unlocks};
-ghost use Rattle.work_queues.specs.Shelf.{IsShelved};
+ghost use Rattle.work_queues.specs.Duties.{IsStored};
 
 use crate::bells::Bells;
 use crate::queue::Queue;
@@ -13,7 +13,7 @@ use std::alloc::Allocator;
 pub struct Order;
 
 impl<T, A: Allocator> TableRule<Queue<T, A>, Room, Bells> for Order {
-    ghost holds = { λ bells. Orderly IsShelved bells.table.shared.table_id bells.workers };
+    ghost holds = { λ bells. Orderly IsStored bells.table.shared.table_id bells.workers };
 
     ghost first = { λ bells. room bells.table.shared.table_id };
 }
@@ -29,7 +29,7 @@ impl<T, A: Allocator> Play<Queue<T, A>, Room> for Sit {
 pub struct Lock;
 
 impl<T, A: Allocator> Play<Queue<T, A>, Room> for Lock {
-    ghost then = { Locks IsShelved };
+    ghost then = { Locks IsStored };
 }
 
 /// The queue is given back.

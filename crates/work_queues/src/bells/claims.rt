@@ -1,8 +1,9 @@
 //! The right to be a worker: a wake reaches one thread, so no two are the same worker.
-ghost use Rattle.std.specs.Prelude.{◌≡◌, IfSome};
+ghost use Rattle.std.specs.Prelude.{◌≡◌, ◌<◌, [], IfSome};
 ghost use Rattle.work_queues.specs.Duties.{IsClaim};
+ghost use Rattle.work_queues.specs.Sleep.{has_right, searcher_word};
 
-use super::{AWAKE, Bells, Claim, FREE, Look, leave};
+use super::{AWAKE, Bells, Claim, FREE, Look, Place, leave};
 use crate::watch::{GiveBack, Take};
 
 impl Bells {
@@ -13,14 +14,22 @@ impl Bells {
         if number >= self.workers {
             return None;
         }
+        let place = self.take(self.worker_word(number))?;
+        Some(Claim { number, place })
+    }
+
+    // The right to the word of a flag or a worker, which shows nothing, or that it is awake. `None` where somebody has it.
+    pub(super) fn take(&self, word: usize) -> Option<Place>
+        requires { word < searcher_word self.now.workers }
+        ensures { IfSome result (λ place. (place.seat.table_id ≡ self.now.table.shared.table_id) × (place.seat.me ≡ (has_right word 0, []))) }
+    {
         let mut place = self.enter();
-        let word = self.worker_word(number);
         let shared = &self.table.shared;
         if shared.compare_exchange::<Take>(&mut place.seat, word, FREE, AWAKE) != FREE {
             leave(place);
             return None;
         }
-        Some(Claim { number, place })
+        Some(place)
     }
 
     /// Gives the right back. A wake may have gone to this worker, so a look is owed.

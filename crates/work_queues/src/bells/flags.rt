@@ -2,8 +2,8 @@
 ghost use Rattle.std.specs.Prelude.{◌≡◌, ◌≤◌, ◌<◌, false, IfSome};
 ghost use Rattle.work_queues.specs.Duties.{IsFlag, SawNothing};
 
-use super::{Bells, FREE, Flag, HIDDEN, NothingShown, Place, SHOWN, Woken, leave};
-use crate::watch::{Hide, LookAtFlag, Show, Take};
+use super::{Bells, Flag, HIDDEN, NothingShown, Place, SHOWN, Woken};
+use crate::watch::{Hide, LookAtFlag, Show};
 
 impl Bells {
     // The right to the flag of a queue, which shows nothing. `None` where somebody has it.
@@ -11,14 +11,7 @@ impl Bells {
         requires { queue ≤ self.now.workers }
         ensures { IfSome result (λ flag. IsFlag self.now flag × (flag.queue ≡ queue) × (flag.shows ≡ false)) }
     {
-        let mut place = self.enter();
-        let word = self.flag_word(queue);
-        let shared = &self.table.shared;
-        if shared.compare_exchange::<Take>(&mut place.seat, word, FREE, HIDDEN) != FREE {
-            leave(place);
-            return None;
-        }
-        let Place { seat } = place;
+        let Place { seat } = self.take(self.flag_word(queue))?;
         Some(Flag {
             queue,
             shows: false,
@@ -40,7 +33,7 @@ impl Bells {
                 shared.store::<Show>(&mut flag.seat, word, SHOWN);
                 flag.shows = true;
             }
-            return self.call(&mut flag.seat);
+            return self.wake_first(&mut flag.seat);
         }
         if flag.shows {
             shared.store::<Hide>(&mut flag.seat, word, HIDDEN);

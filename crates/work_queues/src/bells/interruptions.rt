@@ -39,7 +39,7 @@ impl Bells {
         if shared.load::<LookWhetherDue>(&mut seat, word) != SHOWN {
             self.interruptions.fetch_add(1, Ordering::SeqCst);
             shared.store::<Interrupt>(&mut seat, word, SHOWN);
-            if let Some(woken) = self.call(&mut seat) {
+            if let Some(woken) = self.wake_first(&mut seat) {
                 self.ring(woken);
             }
         }

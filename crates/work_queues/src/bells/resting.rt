@@ -1,12 +1,20 @@
 //! The search of a worker that found nothing, and its sleep.
 ghost use Rattle.std.specs.Prelude.{◌≡◌, ◌+◌, ◌*◌, ◌<◌, ◌⊎◌, [], true, false, IfSome, MatchResult};
 ghost use Rattle.work_queues.specs.Duties.{IsClaim, IsAsleep, SawEach};
-ghost use Rattle.work_queues.specs.Sleep.{padding, owing, sleeps};
+ghost use Rattle.work_queues.specs.Sleep.{owing, sleeps, worker_word, this, asleep};
 
 use super::{ASLEEP, AWAKE, Bells, Claim, Look, MOST_SLEEPERS, Place, Search, Seat, Sleeper};
 use crate::watch::{BeginSearch, Count, CountNot, EndSearch, GetUp, LieDown};
 use std::sync::Wait;
 use std::time::Duration;
+
+/// The kernel was told to let a thread sleep on this word, while that shows this value, and for no longer than this.
+#[derive(Drop)]
+pub struct Parked {
+    word: usize,
+    value: u32,
+    most: Option<Duration>,
+}
 
 impl Bells {
     /// Begins a search, for what it owes as well. `Err` has looks that it owes, where a worker searches already.
@@ -93,7 +101,7 @@ impl Bells {
     fn rise(&self, mut place: Place, worker: usize) -> Look
         requires at { (place.seat.table_id ≡ self.now.table.shared.table_id) × (worker < self.now.workers) }
         requires seat { (place.seat.me.1 ≡ []) × (place.seat.me.0.right ≡ 0) × (place.seat.me.0.value ≡ 0) × (place.seat.me.0.searching ≡ 0) × (place.seat.me.0.interruption ≡ 0) × (place.seat.me.0.interrupted ≡ 0) }
-        requires asleep { (place.seat.me.0.asleep ≡ padding * (self.now.workers + 2 + worker) + 1) ⊎ (place.seat.me.0.asleep ≡ padding * (self.now.workers + 2 + worker) + 2) }
+        requires asleep { (place.seat.me.0.asleep ≡ this (worker_word self.now.workers worker)) ⊎ (place.seat.me.0.asleep ≡ this (worker_word self.now.workers worker) + 1) }
         ensures { result.place.seat.table_id ≡ self.now.table.shared.table_id }
     {
         let word = self.worker_word(worker);
@@ -117,18 +125,25 @@ impl Bells {
         self.sees_flag(&mut sleeper.place.seat)
     }
 
-    /// Sleeps until the worker is woken, or for so long. Only a worker that owes no look may call it. It may also return for no reason: the kernel's call, which this is, promises nothing.
-    pub fn sleep<R: Wait>(&self, rt: &R, sleeper: &Sleeper, most: Option<Duration>)
+    /// Sleeps until the worker is woken, or for so long. Only a worker that owes no look may call it. It may also return for no reason: what the kernel does, no clause says.
+    pub fn sleep<R: Wait>(&self, rt: &R, sleeper: &Sleeper, most: Option<Duration>) -> Parked
         requires { IsAsleep self.now sleeper.now × (sleeper.now.place.seat.me.0.owes ≡ 0) }
+        ensures { (result.word ≡ worker_word self.now.workers sleeper.now.worker) × (result.value ≡ asleep) × (result.most ≡ most) }
     {
-        let word = self.worker_word(sleeper.worker);
+        self.park(rt, self.worker_word(sleeper.worker), ASLEEP as u32, most)
+    }
+
+    // The call of the kernel, and what it was called with.
+    fn park<R: Wait>(&self, rt: &R, word: usize, value: u32, most: Option<Duration>) -> Parked
+        requires { word < self.now.table.shared.table_id.words }
+        ensures { (result.word ≡ word) × (result.value ≡ value) × (result.most ≡ most) }
+    {
+        let shared = &self.table.shared;
         match most {
-            Some(most) => self
-                .table
-                .shared
-                .park_timeout(rt, word, ASLEEP as u32, most),
-            None => self.table.shared.park(rt, word, ASLEEP as u32),
+            Some(most) => shared.park_timeout(rt, word, value, most),
+            None => shared.park(rt, word, value),
         }
+        Parked { word, value, most }
     }
 
     /// Ends the sleep: the worker is awake, and looks once more.

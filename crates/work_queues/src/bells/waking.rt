@@ -1,6 +1,6 @@
 //! The steps that wake a worker which sleeps. Only they make a `Woken`, and only `ring` ends it.
 ghost use Rattle.std.specs.Prelude.{◌≡◌, ◌+◌, ◌*◌, ◌<◌, IfSome, IsNone};
-ghost use Rattle.work_queues.specs.Sleep.{padding, interrupts, knows, left_of, paid, roused};
+ghost use Rattle.work_queues.specs.Sleep.{interrupts, knows, left_of, paid, roused, worker_word};
 
 use super::{ASLEEP, Bells, Seat, WOKEN};
 use crate::watch::{LookAtWorker, Rouse, Wake};
@@ -8,6 +8,12 @@ use crate::watch::{LookAtWorker, Rouse, Wake};
 /// A worker that a step has woken, until its thread is.
 pub struct Woken {
     worker: usize,
+}
+
+/// The kernel was told to wake a thread that sleeps on this word.
+#[derive(Drop)]
+pub struct Unparked {
+    word: usize,
 }
 
 impl Woken {
@@ -41,8 +47,8 @@ impl Bells {
     pub(super) fn rouse(&self, seat: &mut Seat, worker: usize) -> Option<Woken>
         requires { (seat.old.table_id ≡ self.now.table.shared.table_id) × (worker < self.now.workers) }
         ensures id { seat.new.table_id ≡ seat.old.table_id }
-        ensures woken { IfSome result (λ woken. (woken.worker ≡ worker) × (seat.new.me ≡ (knows (interrupts seat.old.me.0 (padding * (self.now.workers + 2 + worker))) roused, seat.old.me.1))) }
-        ensures awake { IsNone result → seat.new.me ≡ (interrupts seat.old.me.0 (padding * (self.now.workers + 2 + worker)), seat.old.me.1) }
+        ensures woken { IfSome result (λ woken. (woken.worker ≡ worker) × (seat.new.me ≡ (knows (interrupts seat.old.me.0 (worker_word self.now.workers worker)) roused, seat.old.me.1))) }
+        ensures awake { IsNone result → seat.new.me ≡ (interrupts seat.old.me.0 (worker_word self.now.workers worker), seat.old.me.1) }
     {
         let word = self.worker_word(worker);
         let shared = &self.table.shared;
@@ -52,12 +58,21 @@ impl Bells {
         None
     }
 
-    /// Wakes the thread of a worker that a step has woken. It is one call of the kernel, of which nothing is claimed.
-    pub fn ring(&self, woken: Woken)
+    /// Wakes the thread of a worker that a step has woken. What the kernel does, no clause says.
+    pub fn ring(&self, woken: Woken) -> Unparked
         requires { woken.worker < self.now.workers }
+        ensures { result.word ≡ worker_word self.now.workers woken.worker }
     {
         let Woken { worker } = woken;
-        let word = self.worker_word(worker);
+        self.unpark(self.worker_word(worker))
+    }
+
+    // The call of the kernel, and what it was called with.
+    fn unpark(&self, word: usize) -> Unparked
+        requires { word < self.now.table.shared.table_id.words }
+        ensures { result.word ≡ word }
+    {
         self.table.shared.wake_one(word);
+        Unparked { word }
     }
 }

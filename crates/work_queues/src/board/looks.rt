@@ -1,4 +1,4 @@
-//! What the flags of the queues show, for a worker that looks for items. Nothing is claimed of these looks, which are over as they are answered.
+//! What the flags of the queues show, for a worker that looks for items.
 ghost use Rattle.std.specs.Prelude.{◌≤◌};
 ghost use Rattle.std.specs.Arc.{arc_value};
 
@@ -20,14 +20,14 @@ pub(crate) fn pause() {
 }
 
 impl<T, A: Allocator> Board<T, A> {
-    /// Whether the flag of a queue shows that it is empty.
+    /// Whether the flag of a queue shows that it is empty. Nothing is claimed of a look that is over.
     pub fn is_empty(&self, queue: usize) -> bool
         requires { queue ≤ (arc_value self.now.bells).workers }
     {
         !self.bells.shows(queue)
     }
 
-    /// Whether the items of a worker's queue stay there at each of some looks. Otherwise that worker is about to run what it has, and would be kept from it.
+    /// Whether the items of a worker's queue stay there at each of some looks. Otherwise that worker is about to run what it has, and would be kept from it. As of `is_empty`, nothing is claimed.
     pub fn is_left(&self, queue: usize) -> bool
         requires { queue ≤ (arc_value self.now.bells).workers }
     {
@@ -40,7 +40,7 @@ impl<T, A: Allocator> Board<T, A> {
         true
     }
 
-    /// Whether this worker has something to take: of its own queue or that for what comes from outside, or what another worker leaves in its queue.
+    /// Whether this worker has something to take: of its own queue or that for what comes from outside, or what another worker leaves in its queue. As of `is_empty`, nothing is claimed.
     pub fn has_some_for(&self, worker: usize) -> bool {
         for queue in 0..=self.workers() {
             let is_its_own = queue == worker || queue == self.workers();

@@ -1,4 +1,4 @@
-use Rattle.std.proofs.Common.{rules, subst, sym, ap}
+use Rattle.std.proofs.Common.{rules}
 use Rattle.work_queues.proofs.Locking.{unlocks}
 use Rattle.work_queues.proofs.board.Board.unlock.Goals as goal
 

@@ -4,12 +4,12 @@ ghost use Rattle.std.specs.Arc.{arc_value};
 ghost use Rattle.std.specs.VecDeque.{deque_capacity};
 ghost use mathlib.Core.Option.{some};
 ghost use lib.ListN.{get_elem?};
-ghost use Rattle.work_queues.specs.Sleep.{padding};
+ghost use Rattle.work_queues.specs.Sleep.{worker_word};
 ghost use Rattle.work_queues.specs.Board.{room, HasQueue};
-ghost use Rattle.work_queues.specs.Shelf.{IsShelved};
+ghost use Rattle.work_queues.specs.Duties.{IsStored};
 
 use super::{Board, LOCKED, UNLOCKED, Visit, Visited};
-use crate::bells::{Bells, PADDING, Woken};
+use crate::bells::{Bells, PADDING, Unparked, Woken};
 use crate::queue::Queue;
 use crate::rule::{Lock, Sit, Unlock};
 use atomic_table::{Refused, Table};
@@ -26,7 +26,7 @@ fn queues<T: Drop, A: Allocator + Copy>(
     room: usize,
 ) -> Result<Vec<Queue<T, A>>, AllocError>
     ensures count { IfOk result (λ queues. length queues.items ≡ bells.now.workers + 1) }
-    ensures each { IfOk result (λ queues. (i : ℕ) (queue : _) → get_elem? queues.items i ≡ some queue → IsShelved bells.now.table.shared.table_id i queue × (deque_capacity queue.items ≡ room)) }
+    ensures each { IfOk result (λ queues. (i : ℕ) (queue : _) → get_elem? queues.items i ≡ some queue → IsStored bells.now.table.shared.table_id i queue × (deque_capacity queue.items ≡ room)) }
 {
     let mut queues = Vec::new(alloc);
     for queue in 0..bells.workers() + 1 {
@@ -65,10 +65,11 @@ impl<T, A: Allocator> Board<T, A> {
     }
 
     /// Wakes the thread of a worker that a call of this board has answered: `Bells::ring`.
-    pub fn ring(&self, woken: Woken)
+    pub fn ring(&self, woken: Woken) -> Unparked
         requires { woken.worker < (arc_value self.now.bells).workers }
+        ensures { result.word ≡ worker_word (arc_value self.now.bells).workers woken.worker }
     {
-        self.bells.ring(woken);
+        self.bells.ring(woken)
     }
 
     /// Puts an item at the back of a queue, and answers the worker that is to be woken. `Err` hands the item back, where the queue was full and there was no memory for more.
@@ -153,7 +154,7 @@ impl<T, A: Allocator> Board<T, A> {
     // `None` where another thread has the queue.
     fn try_lock(&self, queue: usize) -> Option<Visit<T, A>>
         requires { queue ≤ (arc_value self.now.bells).workers }
-        ensures { IfSome result (λ visit. (visit.seat.table_id ≡ self.now.table.shared.table_id) × (held : _) × HasQueue queue visit.seat.me held × IsShelved (arc_value self.now.bells).table.shared.table_id queue held) }
+        ensures { IfSome result (λ visit. (visit.seat.table_id ≡ self.now.table.shared.table_id) × (held : _) × HasQueue queue visit.seat.me held × IsStored (arc_value self.now.bells).table.shared.table_id queue held) }
     {
         let word = PADDING * queue;
         let shared = &self.table.shared;
@@ -168,7 +169,7 @@ impl<T, A: Allocator> Board<T, A> {
 
     pub(super) fn lock<R: Wait>(&self, rt: &R, queue: usize) -> Visit<T, A>
         requires { queue ≤ (arc_value self.now.bells).workers }
-        ensures { (result.seat.table_id ≡ self.now.table.shared.table_id) × (held : _) × HasQueue queue result.seat.me held × IsShelved (arc_value self.now.bells).table.shared.table_id queue held }
+        ensures { (result.seat.table_id ≡ self.now.table.shared.table_id) × (held : _) × HasQueue queue result.seat.me held × IsStored (arc_value self.now.bells).table.shared.table_id queue held }
     {
         for _ in rt.forever() {
             if let Some(visit) = self.try_lock(queue) {
@@ -183,7 +184,7 @@ impl<T, A: Allocator> Board<T, A> {
     pub(super) fn unlock(&self, visit: Visit<T, A>, queue: usize) -> Visited
         requires id { visit.seat.table_id ≡ self.now.table.shared.table_id }
         requires queue { queue ≤ (arc_value self.now.bells).workers }
-        requires held { (held : _) × HasQueue queue visit.seat.me held × IsShelved (arc_value self.now.bells).table.shared.table_id queue held }
+        requires held { (held : _) × HasQueue queue visit.seat.me held × IsStored (arc_value self.now.bells).table.shared.table_id queue held }
         ensures { result.queue ≡ queue }
     {
         let Visit { mut seat } = visit;

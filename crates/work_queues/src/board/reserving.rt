@@ -57,12 +57,13 @@ impl<T, A: Allocator> Board<T, A> {
         (self.unlock(visit, queue), woken)
     }
 
-    /// Unlocks the queue, to which nothing is added. `Reserved` has no other end but `put`, so this needs no clause.
-    pub fn release(&self, reserved: Reserved<T, A>)
+    /// Unlocks the queue, to which nothing is added.
+    pub fn release(&self, reserved: Reserved<T, A>) -> Visited
         requires { HasRoom self.now reserved }
+        ensures { result.queue ≡ reserved.queue }
     {
         let Reserved { visit, queue } = reserved;
-        self.unlock(visit, queue);
+        self.unlock(visit, queue)
     }
 
     // Waits until it has a queue, and gives it back.

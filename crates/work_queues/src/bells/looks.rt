@@ -1,13 +1,13 @@
 //! The looks that follow a flag, an interruption or the end of a search: for a worker that sleeps, and at the flags.
 ghost use Rattle.std.specs.Prelude.{◌≡◌, ◌+◌, ◌<◌, ℕ, ◌*◌, true, false, IfSome};
-ghost use Rattle.work_queues.specs.Sleep.{padding, owing, paid, left_of, sees};
+ghost use Rattle.work_queues.specs.Sleep.{owing, paid, left_of, sees};
 
 use super::{Bells, Look, Place, SHOWN, Seat, Woken, leave};
 use crate::watch::{EnterOwing, LookAtFlag, LookForSearcher, LookForSleepers, Settle};
 
 impl Bells {
     // Whether a worker sleeps and none searches: then all is owed. Else nothing is.
-    fn is_call_due(&self, seat: &mut Seat) -> bool
+    fn is_wake_due(&self, seat: &mut Seat) -> bool
         requires { seat.old.table_id ≡ self.now.table.shared.table_id }
         ensures id { seat.new.table_id ≡ seat.old.table_id }
         ensures due { result ≡ true → seat.new.me ≡ (owing seat.old.me.0, seat.old.me.1) }
@@ -22,13 +22,13 @@ impl Bells {
     }
 
     // Wakes a worker, if one sleeps and none searches. After it no look is owed.
-    pub(super) fn call(&self, seat: &mut Seat) -> Option<Woken>
+    pub(super) fn wake_first(&self, seat: &mut Seat) -> Option<Woken>
         requires { seat.old.table_id ≡ self.now.table.shared.table_id }
         ensures id { seat.new.table_id ≡ seat.old.table_id }
         ensures paid { seat.new.me ≡ (paid seat.old.me.0, seat.old.me.1) }
         ensures woken { IfSome result (λ woken. woken.worker < self.now.workers) }
     {
-        if !self.is_call_due(seat) {
+        if !self.is_wake_due(seat) {
             return None;
         }
         for worker in 0..self.workers {
@@ -65,9 +65,9 @@ impl Bells {
         ensures { IfSome result (λ woken. woken.worker < self.now.workers) }
     {
         let Look { mut place } = look;
-        let is_due = self.is_call_due(&mut place.seat) && self.sees_flag(&mut place.seat);
+        let is_due = self.is_wake_due(&mut place.seat) && self.sees_flag(&mut place.seat);
         let woken = if is_due {
-            self.call(&mut place.seat)
+            self.wake_first(&mut place.seat)
         } else {
             None
         };
