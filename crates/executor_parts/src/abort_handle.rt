@@ -39,6 +39,8 @@ impl<R: Wait + Drop + Copy, L: Listener> AbortHandle<R, L> {
     /// The owner of the group cancels it, as `cancel` does, in `next`, `next_until` or `try_next`: at once if it sleeps in one, else in a later call. The
     /// member comes out once its future is gone: closed, or with the output of a task that was completed before. Further requests are nothing, and so is one
     /// for a member that has come out, or that was let go by `abort_all`, `detach_all` or the drop of the group: it never reaches a later member of the number.
+    ///
+    /// No clause says so: the request is under a lock, and the group looks for it later.
     pub fn abort(&self) {
         self.shared.ask(self.id);
     }

@@ -271,7 +271,7 @@ where
         unreachable!()
     }
 
-    /// Has the next end or abort of a member tell this listener, in place of the one before. Call it before a `try_next` after which you may sleep elsewhere.
+    /// Has the next end or abort of a member tell this listener, in place of the one before. Call it before a `try_next` after which you may sleep elsewhere. No clause says who listens: that is under the lock of the mailbox.
     pub fn listen(&self, listener: A::Listener) {
         self.shared.mailbox.listen(listener);
     }

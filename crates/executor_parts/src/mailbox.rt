@@ -20,6 +20,8 @@ struct Contents<L: Listener> {
 }
 
 /// A mailbox of numbers: any thread posts, and any thread takes them or waits for one. `L` is who else may be told of a post.
+///
+/// Its numbers and its listener are under a lock, where other threads change them between two calls. So no clause of a call can name them: `Numbers` has the claims.
 #[derive(Drop)]
 pub struct Mailbox<R: Wait + Drop + Copy, L: Listener = Nobody> {
     rt: R,
@@ -31,6 +33,7 @@ impl<R: Wait + Drop + Copy, L: Listener> Mailbox<R, L> {
     /// An empty mailbox for the numbers below `room`. All its memory is taken here.
     ///
     /// `rt` is what its calls wait by, `alloc` where the memory comes from. An `Err` says that memory was refused; nothing stays allocated then.
+    /// No clause says that it is empty, since that is under the lock.
     pub fn new(rt: R, alloc: Global, room: usize) -> Result<Arc<Mailbox<R, L>>, AllocError> {
         let contents = Contents {
             numbers: Numbers::new(alloc, room)?,
@@ -47,7 +50,7 @@ impl<R: Wait + Drop + Copy, L: Listener> Mailbox<R, L> {
     /// Posts a number, wakes a thread that waits for one, and tells the listener, which is gone then. It needs no memory. A number that waits already
     /// stays where it is.
     ///
-    /// False says that the number is not below the room; nothing has changed then.
+    /// False says that the number is not below the room; nothing has changed then. No clause says so, since the room is under the lock, too.
     pub fn post(&self, number: usize) -> bool {
         let mut contents = self.contents.lock(&self.rt);
         if number >= contents.numbers.room() {
@@ -66,7 +69,7 @@ impl<R: Wait + Drop + Copy, L: Listener> Mailbox<R, L> {
     }
 
     /// Has the next post tell this listener, in place of the one before. Call it before the look after which you may sleep elsewhere: then the look finds
-    /// a post, or the listener is told of it.
+    /// a post, or the listener is told of it. No clause says who listens, since that is under the lock.
     pub fn listen(&self, listener: L) {
         let mut contents = self.contents.lock(&self.rt);
         let before = contents.listener.replace(listener);
@@ -74,12 +77,12 @@ impl<R: Wait + Drop + Copy, L: Listener> Mailbox<R, L> {
         drop(before);
     }
 
-    /// Takes out the number that has waited longest; `None` where none waits.
+    /// Takes out the number that has waited longest; `None` where none waits. `Numbers::take` has the clauses, under the lock.
     pub fn take(&self) -> Option<usize> {
         self.contents.lock(&self.rt).numbers.take()
     }
 
-    /// Takes out the number that has waited longest, and sleeps until there is one.
+    /// Takes out the number that has waited longest, and sleeps until there is one. As of `take`, no clause of this call says which.
     pub fn wait(&self) -> usize {
         let mut contents = self.contents.lock(&self.rt);
         for _ in self.rt.forever() {
@@ -93,7 +96,7 @@ impl<R: Wait + Drop + Copy, L: Listener> Mailbox<R, L> {
 }
 
 impl<R: Wait + Clock + Drop + Copy, L: Listener> Mailbox<R, L> {
-    /// As `wait`, but `None` at the deadline, if no number waits then. Where the clock of the runtime has no answer, it does not sleep.
+    /// As `wait`, but `None` at the deadline, if no number waits then. Where the clock of the runtime has no answer, it does not sleep. No clause says when that is: only the runtime knows its clock.
     pub fn wait_until(&self, deadline: Instant) -> Option<usize> {
         let mut contents = self.contents.lock(&self.rt);
         for _ in self.rt.forever() {

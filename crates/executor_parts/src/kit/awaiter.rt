@@ -25,6 +25,7 @@ pub struct KitAwaiter<B: Allocator = Global> {
 
 impl<B: Allocator> KitAwaiter<B> {
     /// An awaiter with no waker yet. Its memory comes from `alloc`. An `Err` says that it was refused; nothing stays allocated then.
+    /// No clause says that no waker is there, since its place is under a lock.
     pub fn new(alloc: B) -> Result<KitAwaiter<B>, AllocError> {
         let slot = Slot {
             source: Source::new(),
