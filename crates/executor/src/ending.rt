@@ -10,20 +10,14 @@ impl<R: Wait + Drop + Copy, F: Yields, A: Wake, B: Allocator + Copy, M: Drop> Po
     ///
     /// A task that waits for something is not waited for: what wakes it once all workers have ended leaves it queued, until `shutdown`, the drop of the pool, or other turns. `block_on` and `next_member` go on until they have an answer. A second call, and one after `shutdown`, do nothing.
     pub fn finish(&self) {
-        if !self.stage.close() {
-            return;
+        if let Some(closing) = self.stage.close() {
+            self.stage.end(closing, &self.rt, &self.crew);
         }
-        self.crew.pass(&self.rt);
-        self.stage.finish();
-        self.crew.bells().interrupt_all();
     }
 
-    /// Ends the pool: each worker ends after the turn that it has. The answer is how many Runnables were in the queues, whose tasks it has cancelled: those in the hands of workers, and what is kept, are not counted. From here on nothing is spawned, and a task is cancelled where its Runnable is queued, or its waker or its Task is kept, and any other by its next wake.
+    /// Ends the pool: each worker ends after the turn that it has. The answer is how many Runnables were in the queues, whose tasks it has cancelled: those in the hands of workers, and what is kept, are not counted. As of `Crew::pop`, no clause says which queue they were in. From here on nothing is spawned, and a task is cancelled where its Runnable is queued, or its waker or its Task is kept, and any other by its next wake.
     pub fn shutdown(&self) -> usize {
-        self.stage.shut_down();
-        // A spawn that came before has its Runnable in a queue afterwards.
-        self.crew.pass(&self.rt);
-        self.crew.bells().interrupt_all();
+        self.stage.end(self.stage.shut_down(), &self.rt, &self.crew);
         cancel_kept((self, self.workers()));
         let mut cancelled = 0usize;
         for queue in 0..=self.workers() {
@@ -34,7 +28,7 @@ impl<R: Wait + Drop + Copy, F: Yields, A: Wake, B: Allocator + Copy, M: Drop> Po
 }
 
 impl<R: Wait + Drop + Copy, F: Yields, A: Wake, B: Allocator, M: Drop> Pool<R, F, A, B, M> {
-    /// Whether the pool was shut down.
+    /// Whether the pool was shut down. The word is shared, so no clause says what it shows.
     pub fn is_shut_down(&self) -> bool {
         self.stage.is_shut_down()
     }

@@ -1,5 +1,13 @@
 //! How far a pool has come to its end.
+ghost use Rattle.std.specs.Prelude.{◌≡◌, ◌+◌};
+ghost use Rattle.std.specs.Arc.{arc_value};
+
+use std::alloc::Allocator;
+use std::sync::Wait;
 use std::sync::atomic::{AtomicU64, Ordering};
+use work_queues::Crew;
+use work_queues::bells::AllInterrupted;
+use work_queues::board::AllVisited;
 
 const OPEN: u64 = 0;
 
@@ -9,11 +17,14 @@ const FINISHING: u64 = 2;
 
 const SHUT_DOWN: u64 = 3;
 
-/// Whether a pool takes tasks, and whether its workers end. It only goes on: from open to closed, then to finishing, and from each to shut down.
+/// Whether a pool takes tasks, and whether its workers end. It only goes on: from open to closed, then to finishing, and from each to shut down. Threads share the word, so no clause says what it shows.
 #[derive(Drop)]
 pub(crate) struct Stage {
     word: AtomicU64,
 }
+
+/// The pool takes no more tasks, which spawns that have a queue and workers that sleep do not know yet. It has no `Drop`, so it ends in `Stage::end`.
+pub(crate) struct Closing(());
 
 impl Stage {
     pub(crate) fn new() -> Stage {
@@ -36,18 +47,33 @@ impl Stage {
         self.word.load(Ordering::SeqCst) == SHUT_DOWN
     }
 
-    // The pool takes no more tasks. False where that was so already.
-    pub(crate) fn close(&self) -> bool {
-        self.go_on(OPEN, CLOSED)
+    // The pool takes no more tasks. `None` where that was so already.
+    pub(crate) fn close(&self) -> Option<Closing> {
+        if self.go_on(OPEN, CLOSED) {
+            return Some(Closing(()));
+        }
+        None
     }
 
-    // Workers end from here on, unless the pool was shut down meanwhile.
-    pub(crate) fn finish(&self) {
-        self.go_on(CLOSED, FINISHING);
-    }
-
-    pub(crate) fn shut_down(&self) {
+    pub(crate) fn shut_down(&self) -> Closing {
         self.word.store(SHUT_DOWN, Ordering::SeqCst);
+        Closing(())
+    }
+
+    // Waits until what was spawned before is in a queue. From then on workers end that find nothing, and each looks once more. A pool that was shut down stays so.
+    pub(crate) fn end<R: Wait, T, B: Allocator>(
+        &self,
+        closing: Closing,
+        rt: &R,
+        crew: &Crew<T, B>,
+    ) -> (AllVisited, AllInterrupted)
+        ensures passed { result.0.next ≡ (arc_value crew.now.bells).workers + 1 }
+        ensures told { result.1.next ≡ (arc_value crew.now.bells).workers }
+    {
+        let Closing(()) = closing;
+        let passed = crew.pass(rt);
+        self.go_on(CLOSED, FINISHING);
+        (passed, crew.bells().interrupt_all())
     }
 
     fn go_on(&self, from: u64, to: u64) -> bool {
