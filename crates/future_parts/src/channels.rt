@@ -4,9 +4,7 @@ ghost use Rattle.std.specs.Arc.{arc_value};
 ghost use Rattle.future_parts.specs.Channels.{unsent, SendPolled};
 ghost use Rattle.future_parts.specs.Shared.{made_with, IsRegistered};
 
-use crate::asked::permits::Sweep;
 use crate::asked::{Answer, Place, own_waker};
-use crate::due::Step;
 use crate::shared::Shared;
 use messages::{
     Bounds, Messages, Received, ReceiverEnd, SenderEnd, Sent, TryReceiveError, TrySendError,
@@ -136,27 +134,6 @@ impl<R: Wait + Drop + Copy, T: Drop, W: Wake> Sender<R, T, W> {
     }
 }
 
-// Wakes the receivers that wait, once the last sender is gone.
-fn wake_receivers<R: Wait, T: Drop, W: Wake>(
-    rt: &R,
-    state: &Shared<Messages<T, W>, Bounds>,
-    begun: Sweep,
-) {
-    let mut unlocked = state.unlocked();
-    let mut sweep = begun;
-    for _ in rt.forever() {
-        let step = unlocked.lock(rt).sweep_here(sweep);
-        match step {
-            Step::Next(due, rest) => {
-                due.wake(&unlocked);
-                sweep = rest;
-            }
-            Step::Done => return,
-        }
-    }
-    unreachable!()
-}
-
 impl<R: Wait + Drop + Copy, T: Drop, W: Wake> Drop for Sender<R, T, W> {
     fn drop(mut self) {
         self.give_up();
@@ -169,7 +146,7 @@ impl<R: Wait + Drop + Copy, T: Drop, W: Wake> Drop for Sender<R, T, W> {
         place.end();
         let last = state.unlocked().lock(&rt).sender_gone(end);
         if let Some(sweep) = last {
-            wake_receivers(&rt, &state, sweep);
+            state.wake_each(&rt, sweep, |messages, sweep| messages.sweep_here(sweep));
         }
     }
 }
@@ -272,27 +249,6 @@ impl<R: Wait + Drop + Copy, T: Drop, W: Wake> Receiver<R, T, W> {
     }
 }
 
-// Wakes the senders that wait, once the last receiver is gone.
-fn wake_senders<R: Wait, T: Drop, W: Wake>(
-    rt: &R,
-    state: &Shared<Messages<T, W>, Bounds>,
-    begun: Sweep,
-) {
-    let mut unlocked = state.unlocked();
-    let mut sweep = begun;
-    for _ in rt.forever() {
-        let step = unlocked.lock(rt).sweep_room(sweep);
-        match step {
-            Step::Next(due, rest) => {
-                due.wake(&unlocked);
-                sweep = rest;
-            }
-            Step::Done => return,
-        }
-    }
-    unreachable!()
-}
-
 // Drops the messages that are left once the last receiver is gone, one by one, without the lock.
 fn drop_messages<R: Wait, T: Drop, W: Wake>(rt: &R, state: &Shared<Messages<T, W>, Bounds>) {
     let mut unlocked = state.unlocked();
@@ -321,7 +277,7 @@ impl<R: Wait + Drop + Copy, T: Drop, W: Wake> Drop for Receiver<R, T, W> {
         place.end();
         let last = state.unlocked().lock(&rt).receiver_gone(end);
         if let Some(sweep) = last {
-            wake_senders(&rt, &state, sweep);
+            state.wake_each(&rt, sweep, |messages, sweep| messages.sweep_room(sweep));
             drop_messages(&rt, &state);
         }
     }

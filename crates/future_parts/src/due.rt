@@ -54,7 +54,7 @@ impl<X: Drop> Spare<X> {
         Spare { value }
     }
 
-    /// Drops the value, which is foreign code, so the lock has to be free.
+    /// Drops the value, which is foreign code, so the lock has to be free. It has no clause: no contract says that a value was dropped.
     pub fn discard<S: Drop>(self, _unlocked: &Unlocked<'_, S>) {
         let Spare { value } = self;
         drop(value);

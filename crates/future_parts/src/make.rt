@@ -16,7 +16,7 @@ pub fn ready<T: Drop>(value: T) -> Ready<T>
     Ready { value: Some(value) }
 }
 
-/// A future that is never ready, and wakes nobody. A task that awaits it alone ends by a cancel.
+/// A future that is never ready, and wakes nobody. A task that awaits it alone ends by a cancel. Its type has one value, so it has no clause.
 pub fn pending<T: Drop>() -> Pending<T> {
     Pending {
         output: PhantomData,

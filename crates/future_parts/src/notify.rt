@@ -5,7 +5,6 @@ ghost use Rattle.future_parts.specs.Shared.{made_with, AwaitPolled};
 
 use crate::asked::permits::Numbers;
 use crate::asked::{Answer, Place, own_waker};
-use crate::due::Step;
 use crate::shared::Shared;
 use notices::Notices;
 use std::alloc::{AllocError, Global};
@@ -54,19 +53,9 @@ impl<R: Wait + Drop + Copy, W: Wake> Notify<R, W> {
     ///
     /// It has no clause, as `notify_one`: `Notices::tell` has.
     pub fn notify_waiters(&self) {
-        let mut unlocked = self.state.unlocked();
-        let mut notice = unlocked.lock(&self.rt).notify_waiters();
-        for _ in self.rt.forever() {
-            let step = unlocked.lock(&self.rt).tell(notice);
-            match step {
-                Step::Next(due, rest) => {
-                    due.wake(&unlocked);
-                    notice = rest;
-                }
-                Step::Done => return,
-            }
-        }
-        unreachable!()
+        let notice = self.state.unlocked().lock(&self.rt).notify_waiters();
+        self.state
+            .wake_each(&self.rt, notice, |notices, notice| notices.tell(notice));
     }
 
     /// A future that waits for a notification. It stands in the line from its first poll on.

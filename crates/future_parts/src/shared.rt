@@ -1,5 +1,7 @@
 //! A state under a lock, what contracts see of how it began, and what shows that a call does not hold that lock.
+use crate::due::Step;
 use std::sync::{Mutex, MutexGuard, Wait};
+use task_core::Wake;
 
 /// A state of which contracts see how it began, by an `N`.
 ///
@@ -37,6 +39,30 @@ impl<S: Drop, N: Drop> Shared<S, N> {
     // The only way to the lock. A call makes one alone.
     pub(crate) fn unlocked(&self) -> Unlocked<'_, S> {
         Unlocked { lock: &self.lock }
+    }
+
+    // Carries a duty out, step by step: takes the lock for each, and wakes without it.
+    pub(crate) fn wake_each<R: Wait, W: Wake, D, G: Fn(&mut S, D) -> Step<W, D>>(
+        &self,
+        rt: &R,
+        begun: D,
+        step: G,
+    )
+        requires { G.IsAlwaysCallable step }
+    {
+        let mut unlocked = self.unlocked();
+        let mut duty = begun;
+        for _ in rt.forever() {
+            let next = step(&mut *unlocked.lock(rt), duty);
+            match next {
+                Step::Next(due, rest) => {
+                    due.wake(&unlocked);
+                    duty = rest;
+                }
+                Step::Done => return,
+            }
+        }
+        unreachable!()
     }
 }
 

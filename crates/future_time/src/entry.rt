@@ -99,7 +99,7 @@ impl<W: Drop> Spare<W> {
         Spare { waker }
     }
 
-    /// Drops the waker, which is foreign code, so the lock has to be free.
+    /// Drops the waker, which is foreign code, so the lock has to be free. It has no clause: no contract says that a value was dropped.
     pub fn discard(self, _unlocked: &Unlocked<'_, W>) {
         let Spare { waker } = self;
         drop(waker);
@@ -117,7 +117,7 @@ pub struct Notice {
 }
 
 impl Notice {
-    /// Tells the driver that sleeps at `driver`, where it has to be told.
+    /// Tells the driver that sleeps at `driver`, where it has to be told. It has no clause, since a `Condvar` shows nothing to contracts: a test sees that a driver is told.
     pub fn tell(self, driver: &Condvar) {
         let Notice { is_due } = self;
         if is_due {

@@ -57,7 +57,7 @@ pub struct Timers<R: Wait + Clock + Drop + Copy, W: Wake> {
 }
 
 impl<R: Wait + Clock + Drop + Copy, W: Wake> Timers<R, W> {
-    /// No timers yet. `rt` is what their calls wait by and their clock, `alloc` where their memory comes from.
+    /// No timers yet. `rt` is what their calls wait by and their clock, `alloc` where their memory comes from. It has no clause, since no contract sees through the lock: `TimerTable::new` has.
     pub fn new(rt: R, alloc: Global) -> Result<Timers<R, W>, TimerError> {
         let start = Instant::now(&rt).ok().ok_or(TimerError::Clock)?;
         let table = TimerTable::new(alloc)?;
@@ -115,13 +115,13 @@ impl<R: Wait + Clock + Drop + Copy, W: Wake> Timers<R, W> {
 
     /// Fires each timer that is due at `now`, in the order of their ticks, and answers the instant at which to call this next: no timer is due before it. `None` where no timer waits.
     ///
-    /// A timer that is made after this call may be due sooner.
+    /// A timer that is made after this call may be due sooner. It has no clause, as `new`: `TimerTable::fire` has.
     pub fn fire(&self, now: Instant) -> Option<Instant> {
         self.fire_due(Firing::begin(&self.shared.ticks, now));
         self.next_deadline()
     }
 
-    /// The instant at which to call `fire` next: no timer is due before it. `None` where no timer waits.
+    /// The instant at which to call `fire` next: no timer is due before it. `None` where no timer waits. It has no clause, as `new`: `TimerTable::next_deadline` has.
     pub fn next_deadline(&self) -> Option<Instant> {
         let next = self.shared.unlocked().lock(&self.shared.rt).next_deadline();
         self.shared.ticks.instant_of(next?)
@@ -164,7 +164,7 @@ impl<R: Wait + Clock + Drop + Copy, W: Wake> Timers<R, W> {
         None
     }
 
-    /// Closes the timers: each future that still awaits one is woken, and answers `Closed`, as do those that are made from now on. `run` returns.
+    /// Closes the timers: each future that still awaits one is woken, and answers `Closed`, as do those that are made from now on. `run` returns. It has no clause, as `new`: `TimerTable::close` and `release` have.
     pub fn close(&self) {
         let mut unlocked = self.shared.unlocked();
         let (closing, notice) = unlocked.lock(&self.shared.rt).close();
@@ -181,7 +181,7 @@ impl<R: Wait + Clock + Drop + Copy, W: Wake> Timers<R, W> {
         unreachable!()
     }
 
-    /// How many timers there are: one for each future of these timers that is there.
+    /// How many timers there are: one for each future of these timers that is there. It has no clause, as `new`: `TimerTable::len` has.
     pub fn len(&self) -> usize {
         self.shared.unlocked().lock(&self.shared.rt).len()
     }
