@@ -114,8 +114,7 @@ impl<R: Drop, F: Yields, Q: Drop, M: Drop, A: Drop, B: Allocator + Copy> Share<R
     }
 
     // The same once the first try has missed, and has left this word.
-    #[cold]
-    #[inline(never)]
+    #[inline(always)]
     fn wake_more(
         &self,
         mut party: Party<F, Kept<F>, A>,
