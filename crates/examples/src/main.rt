@@ -8,6 +8,7 @@ mod channel_worker;
 mod claim;
 mod cleanup;
 mod fan;
+mod graceful_end;
 mod kit_futures;
 mod kit_thread;
 mod last;
@@ -104,7 +105,12 @@ where
     print(rt, "sharing", sharing::sum_of_numbers(rt, alloc))?;
     print(rt, "fan", fan::sum_in_parts(rt, alloc, None))?;
     print(rt, "fan", fan::sum_in_parts(rt, alloc, Some(3)))?;
-    print(rt, "web", web::served_and_late(rt, alloc))
+    print(rt, "web", web::served_and_late(rt, alloc))?;
+    print(
+        rt,
+        "graceful_end",
+        graceful_end::left_and_cancelled(rt, alloc),
+    )
 }
 
 fn main(rt: HostRuntime) -> io::Result<()> {

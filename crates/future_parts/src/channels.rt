@@ -201,6 +201,11 @@ impl<R: Wait + Drop + Copy, T: Drop, W: Wake> Receiver<R, T, W> {
         })
     }
 
+    /// How many senders there are. It has no clause, as a message that was sent.
+    pub fn sender_count(&self) -> usize {
+        self.state.unlocked().lock(&self.rt).senders
+    }
+
     /// Receives a message at once. An error says that none is here, or others wait for it, or none will come.
     ///
     /// It has no clause, as a message that was sent: `Messages::try_receive` has.

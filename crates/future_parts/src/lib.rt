@@ -18,6 +18,7 @@ mod oneshots;
 mod racing;
 mod semaphore;
 mod shared;
+mod tracker;
 
 pub use asked::line::{Line, Waiter};
 pub use asked::permits::{Numbers, Permits, Sweep};
@@ -42,3 +43,4 @@ pub use racing::{Race, Raced};
 pub use semaphore::lent::{Lease, Lent};
 pub use semaphore::{Acquire, Permit, Semaphore};
 pub use shared::{Begins, Shared, Unlocked};
+pub use tracker::{TaskTracker, Tracked, task_tracker};

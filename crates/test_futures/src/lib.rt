@@ -59,3 +59,5 @@ mod timed_send_tests;
 mod timeout_tests;
 #[cfg(test)]
 mod token;
+#[cfg(test)]
+mod tracker_tests;
