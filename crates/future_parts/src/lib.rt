@@ -1,5 +1,5 @@
-//! Futures for every executor. Combinators: `ready`, `pending`, `yield_now`, `join`, `join_all` and `race`. What tasks share: a oneshot, a bounded channel, `Notify`, a semaphore and a mutex.
-//! It stands on the traits of `task_core`, on std's deque and lock, and on `thiserror`.
+//! Futures for every executor. Combinators: `ready`, `pending`, `yield_now`, `join`, `join_all` and `race`. What tasks share: a oneshot, a bounded channel, `Notify`, a semaphore and a mutex. A tracker of tasks, and threads for jobs that block.
+//! It stands on the traits of `task_core`, on std's deque and lock, on `crossbeam_channel`, and on `thiserror`.
 //! A user makes one by the function of its name, or by `Notify::new`, `Semaphore::new` or `AsyncMutex::new`, and gives the futures to an executor, or polls them in a future of its own.
 //! `Half` and `KeptOutput`, what a `join` has of its futures, and `Single`, `Messages`, `Notices`, `Lent` and `KeptValue`, what lies under the locks, with what they consist of and what shows that a lock is free, are public only to carry the claims.
 //! Each is a module. What it keeps under its lock stands in the folder of its name; of a oneshot in `asked`, beside the `Own` that it takes apart. `asked`, `due` and `shared` are what all of these stand on.
@@ -7,6 +7,7 @@
 #![tactic(auto)]
 
 mod asked;
+mod blocking;
 mod channels;
 mod due;
 mod instant;
@@ -24,6 +25,7 @@ pub use asked::line::{Line, Waiter};
 pub use asked::permits::{Numbers, Permits, Sweep};
 pub use asked::single::{OneReceiverEnd, OneSenderEnd, Single};
 pub use asked::{Answer, Asked, Own, Place};
+pub use blocking::{BlockingJobs, BlockingThread, Job, blocking_jobs};
 pub use channels::messages::{
     Bounds, Messages, Received, ReceiverEnd, SenderEnd, Sent, TryReceiveError, TrySendError,
 };

@@ -22,6 +22,8 @@ mod gate;
 #[cfg(test)]
 mod interval_tests;
 #[cfg(test)]
+mod jobs_tests;
+#[cfg(test)]
 mod joining_all_tests;
 #[cfg(test)]
 mod joining_tests;
