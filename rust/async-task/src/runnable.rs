@@ -109,6 +109,16 @@ impl<M> Runnable<M> {
     /// # Safety
     ///
     /// The pointer is of [`into_raw`](Runnable::into_raw) of a Runnable with this `M`, and is turned back once.
+    ///
+    /// ```
+    /// use async_task::{Builder, Runnable};
+    ///
+    /// let (runnable, task) = Builder::new().metadata("parser").spawn(|_| async {}, |_| {});
+    /// let pointer = runnable.into_raw();
+    /// let runnable: Runnable<&str> = unsafe { Runnable::from_raw(pointer) };
+    /// assert_eq!(*runnable.metadata(), "parser");
+    /// # drop(task);
+    /// ```
     pub unsafe fn from_raw(ptr: NonNull<()>) -> Self {
         Runnable { ptr, marker: PhantomData }
     }
