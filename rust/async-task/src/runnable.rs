@@ -14,13 +14,15 @@ use crate::{body::Header, cell::*, run, waker};
 /// ```
 pub struct Runnable<M = ()> {
     ptr: NonNull<()>,
-    marker: PhantomData<fn() -> M>,
+    marker: PhantomData<M>,
 }
 
 // SAFETY: a future, output or schedule function that has to stay on a thread is promised to by `spawn_unchecked`; metadata is shared.
 unsafe impl<M: Send + Sync> Send for Runnable<M> {}
 // SAFETY: as above; by reference it makes wakers and shows its metadata.
 unsafe impl<M: Send + Sync> Sync for Runnable<M> {}
+impl<M> core::panic::UnwindSafe for Runnable<M> {}
+impl<M> core::panic::RefUnwindSafe for Runnable<M> {}
 
 impl<M> Runnable<M> {
     /// The handle of this Runnable.

@@ -45,8 +45,7 @@ fn take_offered() -> *mut u8 {
 /// Hands out the room that is offered, once, where `size` bytes fit.
 #[no_mangle]
 extern "C" fn rattle_alloc(size: usize, align: usize) -> Tried {
-    let fits = size <= ROOM * 8 && align <= 8;
-    let at = if fits { take_offered() } else { null_mut() };
+    let at = if size <= ROOM * 8 && align <= 8 { take_offered() } else { null_mut() };
     Tried { ok: !at.is_null(), at }
 }
 
