@@ -34,6 +34,7 @@ fn end_cancel(closed: Closed) -> At<Resting> {
 pub(crate) unsafe fn detach<T>(task: At<Resting>) {
     match task.choose::<Detaches>() {
         Detached::Left(left) => left.finish(),
+        Detached::Orphan(at) => drop(hand_orphan_on(at)),
         Detached::Unclaimed(at) => drop_unclaimed::<T>(at),
     }
 }

@@ -15,16 +15,10 @@ const LARGE: usize = 2048;
 /// assert_eq!(*task.metadata(), "parser");
 /// # drop(runnable);
 /// ```
-#[derive(Debug)]
+#[derive(Debug, Default)]
 pub struct Builder<M> {
     pub(crate) metadata: M,
     pub(crate) propagate_panic: bool,
-}
-
-impl<M: Default> Default for Builder<M> {
-    fn default() -> Self {
-        Builder::new().metadata(M::default())
-    }
 }
 
 impl Builder<()> {

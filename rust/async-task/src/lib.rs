@@ -37,7 +37,5 @@ mod schedule;
 mod task;
 mod waker;
 
-pub use crate::builder::*;
-pub use crate::runnable::Runnable;
-pub use crate::schedule::{Schedule, ScheduleInfo, WithInfo};
-pub use crate::task::{FallibleTask, Task};
+pub use crate::{builder::*, runnable::Runnable, schedule::Schedule, schedule::ScheduleInfo, schedule::WithInfo};
+pub use crate::{task::FallibleTask, task::Task};

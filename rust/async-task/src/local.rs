@@ -1,6 +1,5 @@
 //! Futures of one thread.
-use std::thread::{self, ThreadId};
-use std::{future::Future, mem::ManuallyDrop, pin::Pin, task::Context, task::Poll};
+use std::{future::Future, mem::ManuallyDrop, pin::Pin, task::Context, task::Poll, thread, thread::ThreadId};
 
 /// This thread.
 fn here() -> ThreadId {

@@ -14,13 +14,15 @@ use crate::{body::Header, cell::*, run, waker};
 /// ```
 pub struct Runnable<M = ()> {
     ptr: NonNull<()>,
-    marker: PhantomData<fn() -> M>,
+    marker: PhantomData<M>,
 }
 
 // SAFETY: a future, output or schedule function that has to stay on a thread is promised to by `spawn_unchecked`; metadata is shared.
 unsafe impl<M: Send + Sync> Send for Runnable<M> {}
 // SAFETY: as above; by reference it makes wakers and shows its metadata.
 unsafe impl<M: Send + Sync> Sync for Runnable<M> {}
+impl<M> core::panic::UnwindSafe for Runnable<M> {}
+impl<M> core::panic::RefUnwindSafe for Runnable<M> {}
 
 impl<M> Runnable<M> {
     /// The handle of this Runnable.
@@ -109,6 +111,16 @@ impl<M> Runnable<M> {
     /// # Safety
     ///
     /// The pointer is of [`into_raw`](Runnable::into_raw) of a Runnable with this `M`, and is turned back once.
+    ///
+    /// ```
+    /// use async_task::{Builder, Runnable};
+    ///
+    /// let (runnable, task) = Builder::new().metadata("parser").spawn(|_| async {}, |_| {});
+    /// let pointer = runnable.into_raw();
+    /// let runnable: Runnable<&str> = unsafe { Runnable::from_raw(pointer) };
+    /// assert_eq!(*runnable.metadata(), "parser");
+    /// # drop(task);
+    /// ```
     pub unsafe fn from_raw(ptr: NonNull<()>) -> Self {
         Runnable { ptr, marker: PhantomData }
     }

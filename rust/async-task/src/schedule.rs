@@ -49,6 +49,20 @@ pub struct ScheduleInfo {
 /// ```
 pub trait Schedule<M = ()>: sealed::Sealed<M> {
     /// Schedules the task.
+    ///
+    /// ```
+    /// use async_task::{Runnable, Schedule, ScheduleInfo, WithInfo};
+    ///
+    /// fn told(inner: impl Schedule + Send + Sync + 'static) -> impl Schedule + Send + Sync + 'static {
+    ///     WithInfo(move |runnable: Runnable, info: ScheduleInfo| {
+    ///         println!("scheduled");
+    ///         inner.schedule(runnable, info);
+    ///     })
+    /// }
+    /// let (runnable, task) = async_task::spawn(async {}, told(|runnable: Runnable| drop(runnable)));
+    /// runnable.schedule();
+    /// assert!(task.is_finished());
+    /// ```
     fn schedule(&self, runnable: Runnable<M>, info: ScheduleInfo);
 }
 

@@ -123,8 +123,7 @@ impl<T, M> Future for Task<T, M> {
 
 impl<T, M: fmt::Debug> fmt::Debug for Task<T, M> {
     fn fmt(&self, f: &mut fmt::Formatter<'_>) -> fmt::Result {
-        let mut fields = f.debug_struct("Task");
-        fields.field("finished", &self.is_finished()).field("metadata", self.metadata()).finish()
+        f.debug_struct("Task").field("finished", &self.is_finished()).field("metadata", self.metadata()).finish()
     }
 }
 

@@ -41,5 +41,8 @@ unsafe fn wake(data: *const ()) {
 }
 
 unsafe fn give_up(data: *const ()) {
-    Owned::step(at(data)).finish();
+    match Owned::step(at(data)) {
+        Dropped::Left(left) => left.finish(),
+        Dropped::Orphan(at) => drop(hand_orphan_on(at)),
+    }
 }

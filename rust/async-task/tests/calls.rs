@@ -348,8 +348,10 @@ fn a_builder_keeps_what_it_was_told() {
 #[test]
 fn auto_traits() {
     fn shared<T: Send + Sync>() {}
-    fn unwinds_and_moves<T: std::panic::UnwindSafe + std::panic::RefUnwindSafe + Unpin>() {}
+    fn unwinds<T: std::panic::UnwindSafe + std::panic::RefUnwindSafe>() {}
+    fn moves<T: Unpin>() {}
     type Kept = (std::cell::Cell<u8>, &'static mut u8, std::marker::PhantomPinned);
     shared::<(Runnable<u8>, Task<std::cell::Cell<u8>, u8>)>();
-    unwinds_and_moves::<(Runnable<Kept>, Task<Kept, Kept>)>();
+    unwinds::<(Runnable<Kept>, Task<Kept, Kept>)>();
+    moves::<Task<Kept, Kept>>();
 }

@@ -1,5 +1,5 @@
 //! The acts that the steps ask for. Each uses its position up, makes the step after it, and leaves what that answers.
-use core::{future::Future, mem::replace, task::Waker};
+use core::{mem::replace, task::Waker};
 
 use super::{abort, at::*, steps::*, Finally};
 use crate::{body::Header, body::Outcome, schedule::ScheduleInfo};
@@ -51,18 +51,14 @@ pub(crate) fn drop_future<N: Step>(at: At<DropsFuture, N>) -> N::Then {
     at.done()
 }
 
-/// Drops the future, and stores what the task ends with in its place.
+/// Drops the future, and stores in its place what the task ends with.
 ///
 /// # Safety
 ///
 /// The place is that of the task's future, of this type, and of its output.
-pub(crate) unsafe fn store_output<F: Future, N: Step>(
-    at: At<StoresOutput, N>,
-    place: *mut F,
-    outcome: Outcome<F::Output>,
-) -> N::Then {
+pub(crate) unsafe fn store_output<F, T>(at: At<StoresOutput, Completes>, place: *mut F, end: Outcome<T>) -> Completed {
     or_abort(|| place.drop_in_place());
-    place.cast::<Outcome<F::Output>>().write(outcome);
+    place.cast::<Outcome<T>>().write(end);
     at.done()
 }
 
@@ -82,7 +78,7 @@ pub(crate) unsafe fn drop_output<T, N: Step>(at: At<DropsOutput, N>, place: *mut
 /// # Safety
 ///
 /// `T` is the type of the task's output.
-pub(crate) unsafe fn drop_unclaimed<T>(at: At<DropsUnclaimed, DetachDropped>) {
+pub(crate) unsafe fn drop_unclaimed<T>(at: At<DropsLast, DetachDropped>) {
     let output = at.output::<T>().read();
     at.done().finish();
     drop(output);
@@ -162,18 +158,27 @@ pub(crate) fn deliver<N: Step>(at: At<Delivers, N>, in_panic: impl FnOnce(N::The
 
 /// Hands the Runnable over, by a hold that keeps the schedule function until it has returned, unless there is nothing to keep. Whether the task was woken while it ran.
 pub(crate) fn hand_on<const WOKEN: bool>(at: At<HandsOn<WOKEN>>) -> bool {
-    let hold = at.header().methods.keeps_schedule.then(|| At::<Lent>::stands(at.task).choose::<Holds>());
-    let _release = hold.map(|hold| Finally::new(hold, |hold| Held::step(hold).finish()));
-    at.call_schedule(WOKEN);
+    if at.header().methods.keeps_schedule {
+        let hold = At::<Lent>::stands(at.task).choose::<Holds>();
+        let _release = Finally::new(hold, |hold| Held::step(hold).finish());
+        at.call_schedule(WOKEN);
+    } else {
+        at.call_schedule(WOKEN);
+    }
     WOKEN
+}
+
+/// The same for an open task that nobody else has a handle of, which is rare.
+#[cold]
+pub(crate) fn hand_orphan_on(at: At<HandsOn<false>>) -> bool {
+    hand_on(at)
 }
 
 /// Drops an awaiter that is left, and then all else, once nobody holds it.
 #[inline(never)]
 pub(crate) fn empty<N: Step<Then = End>>(at: At<Empties, N>) {
-    // SAFETY: this is the last handle.
-    let left = unsafe { at.replace_awaiter(None) };
-    or_abort(|| drop(left));
+    // SAFETY: this is the last handle, so nobody looks at the place again.
+    or_abort(|| unsafe { at.header().awaiter.get().drop_in_place() });
     at.done().finish();
 }
 
@@ -195,7 +200,6 @@ impl Left {
         match self {
             Left::Nothing => {}
             Left::Last(at) => empty(at),
-            Left::Goes(at) => drop(hand_on(at)),
         }
     }
 }

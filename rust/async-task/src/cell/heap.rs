@@ -1,7 +1,5 @@
 //! The heap of the archive. It asks for one thing, the block of a cell, and gets the room that the task's own allocation has for it.
-#[cfg(feature = "std")]
-use core::cell::Cell;
-use core::ptr::{null_mut, NonNull};
+use core::ptr::null_mut;
 #[cfg(not(feature = "std"))]
 use core::sync::atomic::{AtomicPtr, Ordering::SeqCst};
 
@@ -18,7 +16,7 @@ struct Tried {
 #[cfg(feature = "std")]
 std::thread_local! {
     /// The room of the spawn that this thread is in.
-    static OFFERED: Cell<*mut u8> = const { Cell::new(null_mut()) };
+    static OFFERED: core::cell::Cell<*mut u8> = const { core::cell::Cell::new(null_mut()) };
 }
 
 /// The room of the one spawn that is at its block: without places of each thread they go one by one.
@@ -27,8 +25,7 @@ static OFFERED: AtomicPtr<u8> = AtomicPtr::new(null_mut());
 
 /// Offers this room to the one call of the archive's heap that follows on this thread.
 #[inline]
-pub(super) fn offer(room: NonNull<()>) {
-    let room = room.as_ptr().cast();
+pub(super) fn offer(room: *mut u8) {
     #[cfg(feature = "std")]
     OFFERED.with(|offered| offered.set(room));
     #[cfg(not(feature = "std"))]
@@ -48,8 +45,7 @@ fn take_offered() -> *mut u8 {
 /// Hands out the room that is offered, once, where `size` bytes fit.
 #[no_mangle]
 extern "C" fn rattle_alloc(size: usize, align: usize) -> Tried {
-    let fits = size <= ROOM * 8 && align <= 8;
-    let at = if fits { take_offered() } else { null_mut() };
+    let at = if size <= ROOM * 8 && align <= 8 { take_offered() } else { null_mut() };
     Tried { ok: !at.is_null(), at }
 }
 

@@ -81,7 +81,7 @@ steps! {
     /// Gains a reference for a waker. At the limit the process ends.
     Gains of Lent = bits async_task_gain => DONE At<Owned>;
     /// A waker of its own, which is given up.
-    Owned = bits async_task_drop_waker -> Left;
+    Owned = bits async_task_drop_waker -> Dropped;
     /// A hold of the body.
     Holds of Lent = place async_task_hold(*mut Place: room!()) => DONE At<Held>;
     /// A hold, which is released.
@@ -178,7 +178,7 @@ positions! {
     /// Asks that the output is dropped, since nobody will claim it.
     DropsOutput
     /// The same of a detach, which takes the output out and drops it last, since its drop may panic.
-    DropsUnclaimed
+    DropsLast
     /// Asks that the output is taken out.
     TakesOutput
     /// Asks that the awaiter's place is emptied.
@@ -208,7 +208,7 @@ answers! {
     /// Whether a wake has brought the Runnable of an idle task.
     Woken { SCHEDULE => Idle(Delivers), DONE => Already, }
     /// What a handle leaves that is given up.
-    Left { OVER => Nothing, LAST => Last(Empties, Emptied), SCHEDULE => Goes(HandsOn<false>), }
+    Left { OVER => Nothing, LAST => Last(Empties, Emptied), }
     /// The same, unless the awaiter's place is to be emptied before.
     Leaving<N> { TAKE => Takes(TakesAwaiter, N), _ => Left(Left) }
     /// Whether the cell has ended, or a hold keeps it.
@@ -241,8 +241,10 @@ answers! {
     Closed { DONE => Over(Resting), TAKE => Takes(TakesAwaiter, CancelTaken), }
     /// A cancel that emptied the awaiter's place.
     CancelEnds { DONE => Over(Resting), WAKE_FIRST => Wakes(WakesAwaiter, CancelWoken), }
-    /// A detach, unless it has ended.
-    Detached { DROP_OUTPUT => Unclaimed(DropsUnclaimed, DetachDropped), _ => Left(Left) }
+    /// A waker's drop.
+    Dropped { SCHEDULE => Orphan(HandsOn<false>), _ => Left(Left) }
+    /// A detach.
+    Detached { DROP_OUTPUT => Unclaimed(DropsLast, DetachDropped), SCHEDULE => Orphan(HandsOn<false>), _ => Left(Left) }
     /// What a poll of the Task finds.
     Look {
         OUTPUT => Output(TakesOutput, OutputTaken), TAKE_CLAIMED => Claims(TakesAwaiter, ClaimTaken),
@@ -300,11 +302,11 @@ pub(crate) fn make(room: NonNull<()>) -> (At<Scheduled>, At<Resting>) {
         fn async_task_new(runnable: *mut Place, task: *mut Place) -> u32;
     }
     let (mut runnable, mut task) = (null_mut(), null_mut());
-    heap::offer(room);
+    heap::offer(room.as_ptr().cast());
     // SAFETY: both places are room for 8 bytes, and outlive the call.
     let number = unsafe { async_task_new(&mut Place { at: &mut runnable }, &mut Place { at: &mut task }) };
-    if number != DONE || runnable != room.as_ptr() || task != room.as_ptr() {
-        abort();
+    match number {
+        DONE if [runnable, task] == [room.as_ptr(); 2] => (At::stands(room), At::stands(room)),
+        _ => abort(),
     }
-    (At::stands(room), At::stands(room))
 }
