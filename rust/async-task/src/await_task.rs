@@ -8,8 +8,8 @@ pub(crate) fn cancel(task: At<Resting>, then: impl Fn(At<Resting>)) {
     let end = |closed| then(end_cancel(closed));
     match task.choose::<Cancels>() {
         Cancelled::Busy(closed) => end(closed),
-        Cancelled::Idle(at) => end(deliver(at, end)),
-        Cancelled::IdleDue(at) => end(deliver(at, end)),
+        Cancelled::Idle(at) => rarely(|| end(deliver(at, end))),
+        Cancelled::IdleDue(at) => rarely(|| end(deliver(at, end))),
     }
 }
 
@@ -18,10 +18,10 @@ pub(crate) fn cancel(task: At<Resting>, then: impl Fn(At<Resting>)) {
 fn end_cancel(closed: Closed) -> At<Resting> {
     match closed {
         Closed::Over(task) => task,
-        Closed::Takes(at) => match take_awaiter(at) {
+        Closed::Takes(at) => rarely(|| match take_awaiter(at) {
             (_, CancelEnds::Over(task)) => task,
             (awaiter, CancelEnds::Wakes(at)) => wake_awaiter(at, awaiter),
-        },
+        }),
     }
 }
 
@@ -34,7 +34,7 @@ fn end_cancel(closed: Closed) -> At<Resting> {
 pub(crate) unsafe fn detach<T>(task: At<Resting>) {
     match task.choose::<Detaches>() {
         Detached::Left(left) => left.finish(),
-        Detached::Orphan(at) => drop(hand_orphan_on(at)),
+        Detached::Orphan(at) => drop(rarely(|| hand_on(at))),
         Detached::Unclaimed(at) => drop_unclaimed::<T>(at),
     }
 }

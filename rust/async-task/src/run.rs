@@ -63,7 +63,7 @@ fn end_closed<N: Step<Then = Leaving<RunTaken>>>(at: At<DropsFuture, N>) -> bool
 fn end_pending(pended: Pended) -> bool {
     match pended {
         Pended::Idle => false,
-        Pended::Orphan(at) => hand_orphan_on(at),
+        Pended::Orphan(at) => rarely(|| hand_on(at)),
         Pended::Woken(at) => hand_on(at),
         Pended::Closed(at) => end_closed(at),
     }

@@ -23,14 +23,10 @@ unsafe fn clone(data: *const ()) -> RawWaker {
     raw(at::<Lent>(data).choose::<Gains>().into_raw())
 }
 
-/// Says that the branch which calls this is not the one to test for first: most wakes find a task that is scheduled or over.
-#[cold]
-#[inline(always)]
-fn rare() {}
-
 unsafe fn wake_by_ref(data: *const ()) {
     if let Woken::Idle(at) = at::<Lent>(data).choose::<Wakes>() {
-        rare();
+        // Most wakes find a task that is scheduled or over: that is to be tested for first.
+        rarely(|| {});
         deliver(at, |()| {});
     }
 }
@@ -42,7 +38,8 @@ unsafe fn wake(data: *const ()) {
 
 unsafe fn give_up(data: *const ()) {
     match Owned::step(at(data)) {
-        Dropped::Left(left) => left.finish(),
-        Dropped::Orphan(at) => drop(hand_orphan_on(at)),
+        Dropped::Left(Left::Nothing) => {}
+        Dropped::Left(left) => rarely(|| left.finish()),
+        Dropped::Orphan(at) => drop(rarely(|| hand_on(at))),
     }
 }

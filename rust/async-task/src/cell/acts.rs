@@ -4,6 +4,12 @@ use core::{mem::replace, task::Waker};
 use super::{abort, at::*, steps::*, Finally};
 use crate::{body::Header, body::Outcome, schedule::ScheduleInfo};
 
+/// Does a longer way of a call, which is compiled apart from the shortest one.
+#[cold]
+pub(crate) fn rarely<A>(act: impl FnOnce() -> A) -> A {
+    act()
+}
+
 /// Calls foreign code whose panic cannot be undone: it ends the process.
 pub(crate) fn or_abort<A>(act: impl FnOnce() -> A) -> A {
     let bomb = Finally::new((), |()| abort());
@@ -168,14 +174,8 @@ pub(crate) fn hand_on<const WOKEN: bool>(at: At<HandsOn<WOKEN>>) -> bool {
     WOKEN
 }
 
-/// The same for an open task that nobody else has a handle of, which is rare.
-#[cold]
-pub(crate) fn hand_orphan_on(at: At<HandsOn<false>>) -> bool {
-    hand_on(at)
-}
-
 /// Drops an awaiter that is left, and then all else, once nobody holds it.
-#[inline(never)]
+#[inline]
 pub(crate) fn empty<N: Step<Then = End>>(at: At<Empties, N>) {
     // SAFETY: this is the last handle, so nobody looks at the place again.
     or_abort(|| unsafe { at.header().awaiter.get().drop_in_place() });

@@ -4,7 +4,7 @@ use core::ptr::null_mut;
 use core::sync::atomic::{AtomicPtr, Ordering::SeqCst};
 
 /// The words of the room for a block.
-pub(crate) const ROOM: usize = 6;
+pub(crate) const ROOM: usize = 4;
 
 /// What the archive is answered: whether there is memory, and where.
 #[repr(C)]
