@@ -3,3 +3,4 @@ pub mod Looks
 pub mod Wakes
 pub mod Desks
 pub mod Polled
+pub mod Outputs

@@ -1,6 +1,7 @@
 //! Wakers and Tasks that futures keep: the pool has them by number, and a future has the keys.
 ghost use Rattle.std.specs.Prelude.{⊤, ◌≡◌, IfSome, IfErr};
 ghost use Rattle.task_cell.specs.PollPaths.{IfOutput};
+ghost use Rattle.executor.specs.Outputs.{IsYielded};
 
 use crate::bell_awaiter::BellAwaiter;
 use crate::pool::{Place, PoolTask, PoolWaker, ToPool};
@@ -143,13 +144,14 @@ pub fn keep_task<'x, R: Wait + Drop + Copy, F: Yields, A: Wake, B: Allocator + C
 }
 
 /// Polls the Task at the place of a key, with this awaiter. `None` where there is no Task, as while another thread polls it, or the key is not one of
-/// `place_for_task` of this pool. A Task that answers `Ready` is gone after it, and any other is there still, unless the pool was shut down. The output meets what the type of the future states.
+/// `place_for_task` of this pool. A Task that answers `Ready` is gone after it, and any other is there still, unless the pool was shut down. The output is one that the future of a task has answered, and meets what its type states.
 pub fn poll_kept<'x, R: Wait + Drop + Copy, F: Yields, A: Wake, B: Allocator + Copy, M: Drop>(
     place: Place<'x, R, F, A, B, M>,
     key: &Key<R>,
     awaiter: &A,
 ) -> Option<TaskPoll<Result<F::Output, TaskClosed>>>
     ensures meets { IfSome result (λ answer. IfOutput answer (λ output. ∥ F.Yields.meets output ∥₁)) }
+    ensures yielded { IfSome result (λ answer. IfOutput answer (IsYielded F.Yields.moves)) }
 {
     let kept = place.0.tasks.take_of(&place.0.rt, key)?;
     let mut task = kept.with_around(place);
@@ -184,6 +186,7 @@ pub fn await_kept<'x, R: Wait + Drop + Copy, F: Yields, B: Allocator + Copy, M: 
     awaited: &Key<R>,
 ) -> Option<TaskPoll<Result<F::Output, TaskClosed>>>
     ensures meets { IfSome result (λ answer. IfOutput answer (λ output. ∥ F.Yields.meets output ∥₁)) }
+    ensures yielded { IfSome result (λ answer. IfOutput answer (IsYielded F.Yields.moves)) }
 {
     let place = waker.around();
     if !keep_waker(waker, own) {

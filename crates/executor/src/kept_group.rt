@@ -6,6 +6,7 @@ ghost use Rattle.async_task.specs.HandlePaths.{IfSomeOutput};
 ghost use Rattle.executor_parts.specs.Answered.{GivesNone};
 ghost use Rattle.executor_parts.specs.Members.{Joins, Leaves, SameMembers};
 ghost use Rattle.executor.specs.Looks.{HasNone, IsReady};
+ghost use Rattle.executor.specs.Outputs.{IsYielded};
 
 use crate::bell_awaiter::BellAwaiter;
 use crate::kept::{drop_kept, keep_task, keep_waker, place_for_task, place_for_waker, poll_kept};
@@ -97,6 +98,7 @@ impl<R: Wait + Drop + Copy> KeptGroup<R> {
         waker: &PoolWaker<'x, R, F, BellAwaiter<R>, B, M>,
     ) -> TaskPoll<Option<(usize, Result<F::Output, TaskClosed>)>>
         ensures meets { IfSomeOutput result (λ ended. IfOk ended.1 (λ output. ∥ F.Yields.meets output ∥₁)) }
+        ensures yielded { IfSomeOutput result (λ ended. IfOk ended.1 (IsYielded F.Yields.moves)) }
         ensures empty { result ≡ TaskPoll.Ready None ↔ (slab_len self.old.members ≡ 0) }
         ensures leaves { IfSomeOutput result (λ ended. Leaves self.old.members self.new.members ended.0) }
         ensures stays { GivesNone result → SameMembers self.old.members self.new.members }
@@ -171,6 +173,7 @@ impl<R: Wait + Drop + Copy> KeptGroup<R> {
         number: usize,
     ) -> TaskPoll<Result<F::Output, TaskClosed>>
         ensures meets { IfOutput result (λ output. ∥ F.Yields.meets output ∥₁) }
+        ensures yielded { IfOutput result (IsYielded F.Yields.moves) }
         ensures leaves { IsReady result → Leaves self.old.members self.new.members number }
         ensures stays { HasNone result → SameMembers self.old.members self.new.members }
         ensures room { self.new.members.capacity ≡ self.old.members.capacity }
@@ -197,6 +200,7 @@ impl<R: Wait + Drop + Copy> KeptGroup<R> {
         number: usize,
     ) -> TaskPoll<Result<F::Output, TaskClosed>>
         ensures meets { IfOutput result (λ output. ∥ F.Yields.meets output ∥₁) }
+        ensures yielded { IfOutput result (IsYielded F.Yields.moves) }
     {
         let Some(key) = self.keys.get(number) else {
             return TaskPoll::Refused;

@@ -1,7 +1,7 @@
 use Rattle.std.specs.Prelude.{◌≡◌, true, ⊤}
 use Rattle.task_core.specs.declared.traits.Yields.{Ghosts}
-use Rattle.executor_parts.specs.declared.group.Member.{Member}
-use Rattle.executor_parts.specs.declared.group.Member.TheVariants.{Runs, Cancelled, HasEnded}
+use Rattle.executor_parts.specs.declared.group.member.Member.{Member}
+use Rattle.executor_parts.specs.declared.group.member.Member.TheVariants.{Runs, Cancelled, HasEnded}
 
 module _ {R F Q M A X B O K L : Type 0} {G : Ghosts F O} where
   -- the next poll of the member, if it has not ended, cancels it

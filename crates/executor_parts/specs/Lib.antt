@@ -2,6 +2,7 @@ pub mod Answered
 pub mod Numbers
 pub mod Posted
 pub mod Cancelled
+pub mod Outputs
 pub mod Generations
 pub mod Members
 pub mod Next

@@ -18,7 +18,8 @@ pub struct Ended<F: Yields> {
 impl<F: Yields> Ended<F> {
     // The same answer under this number.
     pub(crate) fn numbered(self, number: usize) -> Ended<F>
-        ensures { result.number ≡ number }
+        ensures number { result.number ≡ number }
+        ensures answer { result.answer ≡ self.answer }
     {
         let Ended { number: _, answer } = self;
         Ended { number, answer }

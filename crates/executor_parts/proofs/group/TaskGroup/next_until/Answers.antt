@@ -1,0 +1,5 @@
+use Rattle.executor_parts.proofs.Outputs.{came-before}
+use Rattle.executor_parts.proofs.group.TaskGroup.next_until.Goals as goal
+
+pub returns-in-Ok-clause-gives : goal.returns-in-Ok-clause-gives
+returns-in-Ok-clause-gives g c = came-before c.args.self.now.members c.loop.self.members c.in-Ok.member c.loop.invariant.none_more c.in-Ok.ensures.gives
