@@ -18,3 +18,9 @@ next-later first second third number (Err error) leaves same = leaves
 pub refused-later : {T U E : Type 0} (first second third : Slab T) (next : Result U E) → OnErr next (SameMembers second third) → SameMembers first second → OnErr next (SameMembers first third)
 refused-later first second third (Ok out) after before = after
 refused-later first second third (Err error) after before = λ number. after number ∙ before number
+
+-- what follows from each fact of what came out follows where it is known of what came out, if anything did
+pub if-next : {T E : Type 0} {P Q : T → Type 0} (next : Result (Option T) E) → IfNext next P → ((ended : T) → P ended → Q ended) → IfNext next Q
+if-next (Ok (Some ended)) told follows = follows ended told
+if-next (Ok None) told follows = told
+if-next (Err error) told follows = told

@@ -2,6 +2,7 @@
 ghost use Rattle.std.specs.Prelude.{◌≡◌, ◌≢◌, true, false, IfSome, IsNone, OnErr};
 ghost use Rattle.slab.specs.Slab.{slab_len};
 ghost use Rattle.executor_parts.specs.Members.{Leaves, SameMembers, IfNext, is_over};
+ghost use Rattle.executor_parts.specs.Outputs.{CameFrom, NoneGivesMore};
 ghost use Rattle.work_queues.specs.Settled.{OwesNothing};
 
 use crate::bell_awaiter::BellAwaiter;
@@ -44,6 +45,8 @@ impl<'x, R: Wait + Drop + Copy, F: Yields, B: Allocator + Copy, M: Drop> Turns<
         ensures over { is_over result ≡ true → slab_len group.old.members ≡ 0 }
         ensures empty { slab_len group.old.members ≡ 0 → is_over result ≡ true }
         ensures leaves { IfNext result (λ ended. Leaves group.old.members group.new.members ended.number) }
+        ensures gives { IfNext result (CameFrom group.old.members) }
+        ensures none_more { NoneGivesMore group.old.members group.new.members }
         ensures refused { OnErr result (SameMembers group.old.members group.new.members) }
         ensures no_deadline { result ≢ Err NextMemberError.Elapsed }
         ensures room { group.new.members.capacity ≡ group.old.members.capacity }
@@ -74,6 +77,8 @@ impl<'x, R: Wait + Drop + Copy, F: Yields, B: Allocator + Copy, M: Drop> Turns<
     ) -> Option<Result<Option<Ended<F>>, NextMemberError>>
         ensures found { IfSome result (λ next. is_over next ≡ false) }
         ensures leaves { IfSome result (λ next. IfNext next (λ ended. Leaves group.old.members group.new.members ended.number)) }
+        ensures gives { IfSome result (λ next. IfNext next (CameFrom group.old.members)) }
+        ensures none_more { NoneGivesMore group.old.members group.new.members }
         ensures refused { IfSome result (λ next. OnErr next (SameMembers group.old.members group.new.members)) }
         ensures no_deadline { IfSome result (λ next. next ≢ Err NextMemberError.Elapsed) }
         ensures stays { IsNone result → SameMembers group.old.members group.new.members }
@@ -113,6 +118,8 @@ impl<'x, R: Wait + Clock + Drop + Copy, F: Yields, B: Allocator + Copy, M: Drop>
         ensures over { is_over result ≡ true → slab_len group.old.members ≡ 0 }
         ensures empty { slab_len group.old.members ≡ 0 → is_over result ≡ true }
         ensures leaves { IfNext result (λ ended. Leaves group.old.members group.new.members ended.number) }
+        ensures gives { IfNext result (CameFrom group.old.members) }
+        ensures none_more { NoneGivesMore group.old.members group.new.members }
         ensures refused { OnErr result (SameMembers group.old.members group.new.members) }
         ensures room { group.new.members.capacity ≡ group.old.members.capacity }
         ensures settled { OwesNothing self.new.worker }

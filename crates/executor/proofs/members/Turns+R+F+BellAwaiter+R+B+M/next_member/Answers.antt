@@ -1,4 +1,5 @@
-use Rattle.executor.proofs.LaterMembers.{next-later, refused-later}
+use Rattle.executor_parts.proofs.Outputs.{came-before}
+use Rattle.executor.proofs.LaterMembers.{if-next, next-later, refused-later}
 use Rattle.executor.proofs.members.Turns+R+F+BellAwaiter+R+B+M.next_member.Goals as goal
 
 pub returns-in-Some-look-clause-leaves : goal.returns-in-Some-look-clause-leaves
@@ -6,3 +7,9 @@ returns-in-Some-look-clause-leaves g c = next-later c.args.group.now.members c.l
 
 pub returns-in-Some-look-clause-refused : goal.returns-in-Some-look-clause-refused
 returns-in-Some-look-clause-refused g c = refused-later c.args.group.now.members c.loop.group.members c.look.new.group.members _ c.in-Some-look.ensures.refused c.loop.invariant.same
+
+pub returns-in-Some-look-clause-gives : goal.returns-in-Some-look-clause-gives
+returns-in-Some-look-clause-gives g c = if-next _ c.in-Some-look.ensures.gives (λ ended. came-before c.args.group.now.members c.loop.group.members ended c.loop.invariant.none_more)
+
+pub returns-in-Some-look-clause-none_more : goal.returns-in-Some-look-clause-none_more
+returns-in-Some-look-clause-none_more g c = λ number output may. c.loop.invariant.none_more number output (c.in-Some-look.ensures.none_more number output may)

@@ -1,5 +1,6 @@
 use Rattle.std.proofs.Common.{◌∙◌, refl}
-use Rattle.executor.proofs.LaterMembers.{next-later, refused-later}
+use Rattle.executor_parts.proofs.Outputs.{came-before}
+use Rattle.executor.proofs.LaterMembers.{if-next, next-later, refused-later}
 use Rattle.executor.proofs.members.Turns+R+F+BellAwaiter+R+B+M.next_member_until.Goals as goal
 
 pub returns-in-Some-look-clause-leaves : goal.returns-in-Some-look-clause-leaves
@@ -10,3 +11,9 @@ returns-in-Some-look-clause-refused g c = refused-later c.args.group.now.members
 
 pub returns-then-is_over-clause-refused : goal.returns-then-is_over-clause-refused
 returns-then-is_over-clause-refused g c number = c.in_default.ensures.stays refl number ∙ c.loop.invariant.same number
+
+pub returns-in-Some-look-clause-gives : goal.returns-in-Some-look-clause-gives
+returns-in-Some-look-clause-gives g c = if-next _ c.in-Some-look.ensures.gives (λ ended. came-before c.args.group.now.members c.loop.group.members ended c.loop.invariant.none_more)
+
+pub returns-in-Some-look-clause-none_more : goal.returns-in-Some-look-clause-none_more
+returns-in-Some-look-clause-none_more g c = λ number output may. c.loop.invariant.none_more number output (c.in-Some-look.ensures.none_more number output may)
