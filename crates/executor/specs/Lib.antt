@@ -1,4 +1,10 @@
 pub mod Appends
+pub mod Parts
+pub mod Posts
+pub mod Places
+pub mod StoreParts
+pub mod Keys
+pub mod Hands
 pub mod Looks
 pub mod Wakes
 pub mod Desks

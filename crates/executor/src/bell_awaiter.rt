@@ -1,10 +1,11 @@
 //! The awaiter of a pool, by which a worker waits for a Task, a task of the pool for another one, or a group for its members.
-ghost use Rattle.std.specs.Prelude.{⊤, ◌≡◌, false, IfOk, IfSome};
+ghost use Rattle.std.specs.Prelude.{◌≡◌, false, IfOk, IfSome};
 ghost use Rattle.std.specs.Arc.{arc_value};
-ghost use Rattle.executor.specs.Wakes.{IsForWorker, IsForKept, IsForReader, IsSameWake};
+ghost use Rattle.executor.specs.Polled.{Shows};
+ghost use Rattle.executor.specs.Wakes.{IsForWorker, IsForKept, IsForReader, IsSameWake, Reached};
 
 use crate::pool::Pool;
-use crate::ringing::{PoolListener, Rings};
+use crate::ringing::{PoolListener, Rings, Rung, tell};
 use async_task::{Wake, Yields};
 use executor_parts::{Mailbox, Posts};
 use std::alloc::Allocator;
@@ -93,31 +94,30 @@ impl<R: Wait + Drop + Copy> Posts<R> for BellAwaiter<R> {
 }
 
 impl<R: Wait + Drop + Copy> Wake for BellAwaiter<R> {
-    type Record = ();
+    // Whom the wake has reached. A clone is refused without a wake: `None`.
+    type Record = Option<Rung>;
 
-    ghost woken = { λ _ _. ⊤ };
+    ghost woken = { λ awaiter rung. Shows (Reached awaiter.wakes) rung };
 
-    ghost woken_by_ref = { λ _ _. ⊤ };
+    ghost woken_by_ref = { λ awaiter rung. Shows (Reached awaiter.wakes) rung };
 
     ghost cloned = { λ awaiter clone. IfOk clone (λ other. IsSameWake awaiter.wakes other.wakes) };
 
     ghost compared = { λ _ _ answer. answer ≡ false };
 
-    fn wake(self) {
-        self.wake_by_ref();
+    fn wake(self) -> Option<Rung> {
+        self.wake_by_ref()
     }
 
-    fn wake_by_ref(&self) {
+    fn wake_by_ref(&self) -> Option<Rung> {
         match &self.wakes {
-            Wakes::Ring(rings) => rings.ring(),
-            Wakes::Reader(mailbox, number) => {
-                mailbox.post(*number);
-            }
+            Wakes::Ring(rings) => Some(rings.ring()),
+            Wakes::Reader(mailbox, number) => Some(Rung::Reader(tell(mailbox, *number))),
         }
     }
 
-    fn try_clone(&self) -> Result<BellAwaiter<R>, ()> {
-        self.second().ok_or(())
+    fn try_clone(&self) -> Result<BellAwaiter<R>, Option<Rung>> {
+        self.second().ok_or(None)
     }
 
     // Two shares of the bells cannot be told to be of one pool: a wake too many has a worker look once more.

@@ -1,5 +1,6 @@
 //! Turns that end at a deadline: so a worker with nothing to do can drive timers.
-ghost use Rattle.std.specs.Prelude.{◌≡◌, IfSome};
+ghost use Rattle.std.specs.Prelude.{◌≡◌, [], IfSome, IsNone};
+ghost use Rattle.executor.specs.Hands.{ComesFirst};
 ghost use Rattle.work_queues.specs.Settled.{OwesNothing};
 
 use crate::pool::PoolRunnable;
@@ -19,6 +20,7 @@ pub(crate) struct Deadline<R: Clock + Drop> {
 }
 
 impl<R: Clock + Drop> Limit for Deadline<R> {
+    // No clause says how long: only the runtime knows its clock.
     fn left(&self) -> Option<Duration> {
         Some(left_until(&self.rt, self.at))
     }
@@ -39,6 +41,8 @@ impl<'x, R: Wait + Clock + Drop + Copy, F: Yields, A: Wake, B: Allocator + Copy,
         deadline: Instant,
     ) -> Option<PoolRunnable<'x, R, F, A, B, M>>
         ensures place { IfSome result (λ runnable. runnable.around.1 ≡ self.old.worker.number) }
+        ensures first { ComesFirst (λ queued runnable. runnable.inner ≡ queued.inner) self.old.worker.batch.items result self.new.worker.batch.items }
+        ensures hands { IsNone result → self.new.worker.batch.items ≡ [] }
         ensures settled { OwesNothing self.new.worker }
     {
         let limit = Deadline {
@@ -50,6 +54,8 @@ impl<'x, R: Wait + Clock + Drop + Copy, F: Yields, A: Wake, B: Allocator + Copy,
 
     /// As `await_next`, but `None` also at the deadline, if none is found before. What woke this worker then, another one looks for.
     pub fn await_next_until(&mut self, deadline: Instant) -> Option<PoolRunnable<'x, R, F, A, B, M>>
+        ensures place { IfSome result (λ runnable. runnable.around.1 ≡ self.old.worker.number) }
+        ensures hands { IsNone result → self.new.worker.batch.items ≡ [] }
         ensures settled { OwesNothing self.new.worker }
     {
         let limit = Deadline {

@@ -1,24 +1,48 @@
 //! The two ends of a pool: it finishes what is queued, or it is shut down.
+ghost use Rattle.std.specs.Prelude.{IfSome};
+ghost use Rattle.std.specs.Arc.{arc_value};
+ghost use Rattle.work_queues.specs.Duties.{SawNothing};
+
 use crate::kept::cancel_kept;
 use crate::pool::Pool;
 use async_task::{Wake, Yields};
 use std::alloc::Allocator;
 use std::sync::Wait;
+use work_queues::bells::NothingShown;
 
 impl<R: Wait + Drop + Copy, F: Yields, A: Wake, B: Allocator + Copy, M: Drop> Pool<R, F, A, B, M> {
     /// Takes no more tasks, and ends each worker, as `run`, `work` or `await_next`, once it finds nothing queued. What a task that still runs queues, its worker runs before it ends. It does not wait for that: join the threads of the workers.
     ///
-    /// A task that waits for something is not waited for: what wakes it once all workers have ended leaves it queued, until `shutdown`, the drop of the pool, or other turns. `block_on` and `next_member` go on until they have an answer. A second call, and one after `shutdown`, do nothing.
+    /// A task that waits for something is not waited for: what wakes it once all workers have ended leaves it queued, until `shutdown`, the drop of the pool, or other turns. `block_on` and `next_member` go on until they have an answer. A second call, and one after `shutdown`, do nothing. No clause says which call was the first: who closes the pool owes a `Closing`, which only `Stage::end` takes.
     pub fn finish(&self) {
         if let Some(closing) = self.stage.close() {
             self.stage.end(closing, &self.rt, &self.crew);
         }
     }
 
-    /// Ends the pool: each worker ends after the turn that it has. The answer is how many Runnables were in the queues, whose tasks it has cancelled: those in the hands of workers, and what is kept, are not counted. As of `Crew::pop`, no clause says which queue they were in. From here on nothing is spawned, and a task is cancelled where its Runnable is queued, or its waker or its Task is kept, and any other by its next wake.
+    /// Ends the pool: each worker ends after the turn that it has. The answer is how many Runnables were in the queues, whose tasks it has cancelled: those in the hands of workers, and what is kept, are not counted. No clause says which were there: `cancel_queued` has the clause that no queue shows one at its end. From here on nothing is spawned, and a task is cancelled where its Runnable is queued, or its waker or its Task is kept, and any other by its next wake.
     pub fn shutdown(&self) -> usize {
         self.stage.end(self.stage.shut_down(), &self.rt, &self.crew);
         cancel_kept((self, self.workers()));
+        self.cancel_queued().0
+    }
+
+    // Drops the Runnables of all queues, which cancels their tasks, until no queue shows one: how many there were.
+    fn cancel_queued(&self) -> (usize, NothingShown)
+        ensures { SawNothing (arc_value self.now.crew.bells) result.1 }
+    {
+        let mut cancelled = 0usize;
+        for _ in self.rt.forever() {
+            if let Some(none) = self.crew.shows_none() {
+                return (cancelled, none);
+            }
+            cancelled = cancelled.saturating_add(self.cancel_each_queue());
+        }
+        unreachable!()
+    }
+
+    // Drops the Runnables of each queue in turn. As of `Crew::pop`, no clause says how many there were.
+    fn cancel_each_queue(&self) -> usize {
         let mut cancelled = 0usize;
         for queue in 0..=self.workers() {
             cancelled = cancelled.saturating_add(self.cancel_queue(queue));
@@ -34,11 +58,20 @@ impl<R: Wait + Drop + Copy, F: Yields, A: Wake, B: Allocator, M: Drop> Pool<R, F
     }
 
     // Whether a worker ends that has found nothing: no task is taken any more, and nothing is queued or posted.
-    pub(crate) fn is_finished(&self) -> bool {
-        self.stage.is_finishing() && self.crew.shows_none().is_some() && !self.mail.is_due()
+    pub(crate) fn is_finished(&self) -> Option<NothingShown>
+        ensures { IfSome result (SawNothing (arc_value self.now.crew.bells)) }
+    {
+        if !self.stage.is_finishing() {
+            return None;
+        }
+        let none = self.crew.shows_none()?;
+        if self.mail.is_due() {
+            return None;
+        }
+        Some(none)
     }
 
-    // Drops the Runnables of a queue, which cancels their tasks: how many there were.
+    // Drops the Runnables of a queue, which cancels their tasks: how many there were. As of `Crew::pop`, no clause says which queue.
     pub(crate) fn cancel_queue(&self, queue: usize) -> usize {
         let mut cancelled = 0usize;
         for _ in self.rt.forever() {

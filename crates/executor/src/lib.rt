@@ -1,7 +1,7 @@
 //! A pool of threads that run the tasks of `async_task` and steal from one another.
 //! It stands on `async_task`, on `work_queues`, which has the queues and the sleep of the workers, on the awaiters and groups of `executor_parts`, and on the kit's `slab` and `thiserror`.
 //! A user calls `Pool`, `Turns` for loops of its own, and the functions of `kept`, and has groups as `PoolGroup`; a future reaches the pool by `waker.around()`, and keeps `Key`s. `Store` also serves other executors, and so do the wakers of `shared_waker`, which any future may keep.
-//! Nothing is public only to carry a claim; the claims on queues and sleep are those of `work_queues`.
+//! `Rung` and what it names are public to carry the claim of a wake; the claims on queues and sleep are those of `work_queues`.
 //! The page is docs/EXECUTOR_POOL.md.
 #![tactic(auto)]
 
@@ -36,7 +36,7 @@ pub use kept::{
 pub use kept_group::KeptGroup;
 pub use members::PoolGroup;
 pub use pool::{Place, Pool, PoolRunnable, PoolTask, PoolWaker, ToPool};
-pub use ringing::PoolListener;
+pub use ringing::{PoolListener, Rung};
 pub use shared::WithShared;
 pub use start::{Team, Works};
 pub use store::{Key, Store, Walk};

@@ -1,6 +1,8 @@
 //! The mail of a pool: the numbers of kept wakers that awaiters have posted and no worker has taken yet.
+ghost use Rattle.executor.specs.Parts.{InParts};
+
 use crate::parts::{PARTS, number_of, part_of, slot_of};
-use crate::posted::Posted;
+use crate::posted::{Post, Posted};
 use std::alloc::{AllocError, Global};
 use std::sync::atomic::{AtomicU64, AtomicUsize, Ordering};
 use std::sync::{Arc, Wait};
@@ -14,10 +16,13 @@ pub(crate) struct Mail<R: Wait + Drop + Copy> {
     due: Arc<AtomicU64>,
     // The part that is looked at first. It moves on, so that a part which always has a number keeps no other one waiting.
     first: AtomicUsize,
+    ghost parted: { InParts (λ posted. posted.part) parts.items },
 }
 
 impl<R: Wait + Drop + Copy> Mail<R> {
-    // No numbers yet, and room for none. An error says that there was no memory.
+    ghost use Rattle.executor.specs.Posts.{IsPost};
+
+    // No numbers yet, and room for none. An error says that there was no memory. No clause says so, since the numbers are under the locks of the parts.
     pub(crate) fn new(rt: R, alloc: Global) -> Result<Arc<Mail<R>>, AllocError> {
         let due = Arc::new(alloc, AtomicU64::new(0))?;
         let mut parts = Vec::new(alloc);
@@ -33,28 +38,25 @@ impl<R: Wait + Drop + Copy> Mail<R> {
         Ok(Arc::new(alloc, mail)?)
     }
 
-    // Has room for this number, and all below it of its part. An error says that there was no memory: nothing has changed then.
+    // Has room for this number, and all below it of its part. An error says that there was no memory: nothing has changed then. No clause says so here: `Posted::make_room` answers a `Room` for the number.
     pub(crate) fn make_room(&self, number: usize) -> Result<(), AllocError> {
-        match self.parts.get(part_of(number)) {
-            Some(part) => part.make_room(&self.rt, slot_of(number)),
-            None => Err(AllocError),
-        }
+        self.parts[part_of(number)].make_room(&self.rt, slot_of(number))?;
+        Ok(())
     }
 
-    // Posts a number. True where it joins the others: it did not wait yet, and there is room for it.
-    pub(crate) fn post(&self, number: usize) -> bool {
-        match self.parts.get(part_of(number)) {
-            Some(part) => part.post(&self.rt, slot_of(number)),
-            None => false,
-        }
+    // Posts a number.
+    pub(crate) fn post(&self, number: usize) -> Post
+        ensures { IsPost number result }
+    {
+        self.parts[part_of(number)].post(&self.rt, slot_of(number))
     }
 
-    // Whether a number may wait.
+    // Whether a number may wait. No clause says what the word shows: it is over as it is answered.
     pub(crate) fn is_due(&self) -> bool {
         self.due.load(Ordering::SeqCst) != 0
     }
 
-    // Takes out a number: that which has waited longest in its part.
+    // Takes out a number: that which has waited longest in its part. No clause says which, since the numbers are under the locks of the parts.
     pub(crate) fn take(&self) -> Option<usize> {
         if !self.is_due() {
             return None;

@@ -20,7 +20,8 @@ pub(crate) fn slot_of(number: usize) -> usize
 
 // The number of a place of a part. There are fewer places than bytes of memory, so it does not wrap.
 pub(crate) fn number_of(part: usize, slot: usize) -> usize
-    ensures { slot * 8 + part < 18446744073709551616 → result ≡ slot * 8 + part }
+    ensures number { slot * 8 + part < 18446744073709551616 → result ≡ slot * 8 + part }
+    ensures part { part < 8 → result % 8 ≡ part }
 {
     slot.wrapping_mul(PARTS).wrapping_add(part)
 }

@@ -1,5 +1,6 @@
 //! The pool: how it is made, and what it tells.
-ghost use Rattle.std.specs.Prelude.{⊤, ◌≡◌};
+ghost use Rattle.std.specs.Prelude.{⊤, ◌≡◌, IfOk, max, min};
+ghost use Rattle.std.specs.Arc.{arc_value};
 
 use crate::kept::{KeptTask, KeptWaker};
 use crate::mail::Mail;
@@ -91,7 +92,7 @@ impl<'x, R: Wait + Drop + Copy, F: Yields, A: Wake, B: Allocator + Copy, M: Drop
 > for ToPool {
     ghost scheduled = { λ _ _ _. ⊤ };
 
-    // A Runnable that no queue has memory for, or that comes after the shutdown, is dropped: its task is cancelled.
+    // A Runnable that no queue has memory for, or that comes after the shutdown, is dropped: its task is cancelled. The call answers nothing, so no clause says in which queue one is: `Crew::push` has it.
     fn schedule(&self, runnable: PoolRunnable<'x, R, F, A, B, M>, _info: ScheduleInfo) {
         let (pool, worker) = runnable.around();
         if pool.is_shut_down() {
@@ -108,11 +109,10 @@ impl<'x, R: Wait + Drop + Copy, F: Yields, A: Wake, B: Allocator + Copy, M: Drop
 
 impl<R: Wait + Drop + Copy, F: Yields, A: Wake, M: Drop> Pool<R, F, A, Global, M> {
     /// A pool of so many workers, at least one and at most `work_queues::bells::MOST_WORKERS`. Its workers do not run yet. `rt` is what its threads wait by, `alloc` where all memory comes from. An error says that there was no memory.
-    pub fn new(
-        rt: R,
-        alloc: Global,
-        workers: usize,
-    ) -> Result<Pool<R, F, A, Global, M>, AllocError> {
+    pub fn new(rt: R, alloc: Global, workers: usize) -> Result<Pool<R, F, A, Global, M>, AllocError>
+        ensures workers { IfOk result (λ pool. (arc_value pool.crew.bells).workers ≡ min (max workers 1) 1024) }
+        ensures given { IfOk result (λ pool. (pool.rt ≡ rt) × (pool.alloc ≡ alloc)) }
+    {
         Pool::with_queues_in(rt, alloc, alloc, workers)
     }
 }
@@ -124,7 +124,10 @@ impl<R: Wait + Drop + Copy, F: Yields, A: Wake, B: Allocator + Copy, M: Drop> Po
         alloc: Global,
         items: B,
         workers: usize,
-    ) -> Result<Pool<R, F, A, B, M>, AllocError> {
+    ) -> Result<Pool<R, F, A, B, M>, AllocError>
+        ensures workers { IfOk result (λ pool. (arc_value pool.crew.bells).workers ≡ min (max workers 1) 1024) }
+        ensures given { IfOk result (λ pool. (pool.rt ≡ rt) × (pool.alloc ≡ alloc) × (pool.items ≡ items)) }
+    {
         Pool::with_settings(rt, alloc, items, workers, Settings::new())
     }
 
@@ -135,7 +138,11 @@ impl<R: Wait + Drop + Copy, F: Yields, A: Wake, B: Allocator + Copy, M: Drop> Po
         items: B,
         workers: usize,
         settings: Settings,
-    ) -> Result<Pool<R, F, A, B, M>, AllocError> {
+    ) -> Result<Pool<R, F, A, B, M>, AllocError>
+        ensures workers { IfOk result (λ pool. (arc_value pool.crew.bells).workers ≡ min (max workers 1) 1024) }
+        ensures settings { IfOk result (λ pool. pool.crew.settings ≡ settings) }
+        ensures given { IfOk result (λ pool. (pool.rt ≡ rt) × (pool.alloc ≡ alloc) × (pool.items ≡ items)) }
+    {
         Ok(Pool {
             rt,
             alloc,
@@ -162,12 +169,12 @@ impl<R: Wait + Drop + Copy, F: Yields, A: Wake, B: Allocator + Copy, M: Drop> Po
         self.alloc
     }
 
-    /// How many places for wakers are taken: those whose key is there, and those of dropped keys that no worker has freed yet.
+    /// How many places for wakers are taken: those whose key is there, and those of dropped keys that no worker has freed yet. As of `Store::len`, no clause says how many.
     pub fn kept_wakers(&self) -> usize {
         self.wakers.len(&self.rt)
     }
 
-    /// How many places for Tasks are taken, counted in the same way.
+    /// How many places for Tasks are taken, counted in the same way. As of `Store::len`, no clause says how many.
     pub fn kept_tasks(&self) -> usize {
         self.tasks.len(&self.rt)
     }
@@ -182,11 +189,13 @@ impl<R: Wait + Drop + Copy, F: Yields, A: Wake, B: Allocator + Copy, M: Drop> Po
 
 impl<R: Wait + Drop + Copy, F: Yields, A: Wake, B: Allocator, M: Drop> Pool<R, F, A, B, M> {
     /// How many workers it has.
-    pub fn workers(&self) -> usize {
+    pub fn workers(&self) -> usize
+        ensures { result ≡ (arc_value self.now.crew.bells).workers }
+    {
         self.crew.workers()
     }
 
-    /// How many Runnables the queues have now, each queue counted for itself. It takes the lock of each, so a thread that only watches asks seldom.
+    /// How many Runnables the queues have now, each queue counted for itself. It takes the lock of each, so a thread that only watches asks seldom. As of `Crew::len`, nothing is claimed of the number.
     pub fn queued(&self) -> usize {
         self.crew.len(&self.rt)
     }

@@ -1,12 +1,14 @@
 //! Whom the bells and the mail of a pool can wake, and the listener of a mailbox that wakes them.
 ghost use Rattle.std.specs.Prelude.{◌≡◌, IfSome};
 ghost use Rattle.std.specs.Arc.{arc_value};
-ghost use Rattle.executor.specs.Wakes.{RingsWorker, RingsKept, IsSameRing};
+ghost use Rattle.executor.specs.Wakes.{RingsWorker, RingsKept, IsSameRing, RangFor};
 
 use crate::mail::Mail;
-use executor_parts::Listener;
+use crate::posted::Post;
+use executor_parts::{Listener, Mailbox};
 use std::sync::{Arc, Wait};
 use work_queues::Bells;
+use work_queues::bells::{Due, Interrupted};
 
 /// Whom a ring is for.
 #[derive(Drop)]
@@ -15,6 +17,34 @@ pub(crate) enum Rings<R: Wait + Drop + Copy> {
     Worker(Arc<Bells>, usize),
     /// The task whose waker is kept under this number, by the mail and then the bells.
     Kept(Arc<Bells>, Arc<Mail<R>>, usize),
+}
+
+/// Whom a wake has reached.
+#[derive(Drop)]
+pub enum Rung {
+    /// A worker, which looks once more. `None` where there is no such worker.
+    Worker(Option<Interrupted>),
+    /// A number that was posted for a kept waker. Where it joined those that wait, an interruption was due after it.
+    Kept(Post, Option<Due>),
+    /// Whoever takes a number out of a mailbox.
+    Reader(Told),
+}
+
+/// A number was posted to a mailbox. Only `tell` makes one.
+#[derive(Drop)]
+pub struct Told {
+    number: usize,
+}
+
+// Posts a number to a mailbox. Where it waits, `Numbers` says.
+pub(crate) fn tell<R: Wait + Drop + Copy>(
+    mailbox: &Mailbox<R, PoolListener<R>>,
+    number: usize,
+) -> Told
+    ensures { result.number ≡ number }
+{
+    mailbox.post(number);
+    Told { number }
 }
 
 impl<R: Wait + Drop + Copy> Rings<R> {
@@ -49,13 +79,19 @@ impl<R: Wait + Drop + Copy> Rings<R> {
     }
 
     // A number that waits already was posted by a thread that interrupts a worker after it.
-    pub(crate) fn ring(&self) {
+    pub(crate) fn ring(&self) -> Rung
+        ensures { RangFor self.now result }
+    {
         match self {
-            Rings::Worker(bells, worker) => drop(bells.interrupt_worker(*worker)),
+            Rings::Worker(bells, worker) => Rung::Worker(bells.interrupt_worker(*worker)),
             Rings::Kept(bells, mail, number) => {
-                if mail.post(*number) {
-                    bells.interrupt();
-                }
+                let post = mail.post(*number);
+                let due = if post.joined() {
+                    Some(bells.interrupt())
+                } else {
+                    None
+                };
+                Rung::Kept(post, due)
             }
         }
     }
@@ -68,6 +104,7 @@ pub struct PoolListener<R: Wait + Drop + Copy> {
 }
 
 impl<R: Wait + Drop + Copy> Listener for PoolListener<R> {
+    // `Rings::ring` says whom it reaches.
     fn tell(self) {
         self.rings.ring();
     }

@@ -1,5 +1,6 @@
 //! A pool that carries a value of the user's, which its futures reach.
-ghost use Rattle.std.specs.Prelude.{◌≡◌};
+ghost use Rattle.std.specs.Prelude.{◌≡◌, IfOk, max, min};
+ghost use Rattle.std.specs.Arc.{arc_value};
 
 use crate::pool::Pool;
 use async_task::{Wake, Yields};
@@ -17,7 +18,7 @@ pub struct WithShared<R, S> {
 
 impl<R: Wait, S> Wait for WithShared<R, S> {}
 
-/// The clocks of the runtime.
+/// The clocks of the runtime. No clause says what they show: only the runtime knows.
 impl<R: Clock, S> Clock for WithShared<R, S> {
     fn monotonic(&self) -> io::Result<Duration> {
         self.rt.monotonic()
@@ -45,7 +46,10 @@ impl<R: Wait + Drop + Copy, S: Drop + Copy, F: Yields, A: Wake, M: Drop> Pool<
         alloc: Global,
         workers: usize,
         shared: S,
-    ) -> Result<Pool<WithShared<R, S>, F, A, Global, M>, AllocError> {
+    ) -> Result<Pool<WithShared<R, S>, F, A, Global, M>, AllocError>
+        ensures workers { IfOk result (λ pool. (arc_value pool.crew.bells).workers ≡ min (max workers 1) 1024) }
+        ensures given { IfOk result (λ pool. (pool.rt.rt ≡ rt) × (pool.rt.shared ≡ shared) × (pool.alloc ≡ alloc)) }
+    {
         Pool::new(WithShared { rt, shared }, alloc, workers)
     }
 }

@@ -1,5 +1,6 @@
 //! Spawning into a pool: room in the queue comes first, so that a refusal has back what it was given.
-ghost use Rattle.std.specs.Prelude.{◌≡◌, ◌-◌, ◌+◌, ◌<◌, [], drop, IfOk, IfErr, IsSome, IsNone, OnOk, vec_len, vec_capacity};
+ghost use Rattle.std.specs.Prelude.{◌≡◌, ◌-◌, ◌+◌, ◌<◌, [], drop, min, IfOk, IfErr, IsSome, IsNone, OnOk, vec_len, vec_capacity};
+ghost use Rattle.std.specs.Arc.{arc_value};
 ghost use Rattle.std.specs.Fn.{FnOnceReturnsAt};
 ghost use Rattle.task_cell.specs.Belongs.{spawned_in};
 ghost use Rattle.work_queues.specs.Rooms.{HasRoom};
@@ -163,6 +164,7 @@ impl<R: Wait + Drop + Copy, F: Yields, A: Wake, B: Allocator + Copy, M: Drop> Po
     // Room for one Runnable at the queue of a worker, or in that for what comes from outside. Where it is refused, no queue is locked.
     fn reserve(&self, worker: usize) -> Result<Reserved<Queued<R, F, A, M>, B>, SpawnRefusal>
         ensures room { IfOk result (HasRoom self.now.crew.board) }
+        ensures queue { IfOk result (λ reserved. reserved.queue ≡ min worker (arc_value self.now.crew.bells).workers) }
     {
         let reserved = self.crew.reserve(&self.rt, worker)?;
         // It asks while it has the queue, for which `finish` and `shutdown` wait: what was spawned before them they find there.

@@ -27,27 +27,29 @@ pub(crate) struct Stage {
 pub(crate) struct Closing(());
 
 impl Stage {
+    // The stage of a pool that takes tasks. No clause says so, since threads share the word.
     pub(crate) fn new() -> Stage {
         Stage {
             word: AtomicU64::new(OPEN),
         }
     }
 
-    // Whether the pool takes tasks.
+    // Whether the pool takes tasks. No clause says what the word shows.
     pub(crate) fn is_open(&self) -> bool {
         self.word.load(Ordering::SeqCst) == OPEN
     }
 
-    // Whether a worker ends that finds nothing.
+    // Whether a worker ends that finds nothing. No clause says what the word shows.
     pub(crate) fn is_finishing(&self) -> bool {
         self.word.load(Ordering::SeqCst) == FINISHING
     }
 
+    // Whether the pool was shut down. No clause says what the word shows.
     pub(crate) fn is_shut_down(&self) -> bool {
         self.word.load(Ordering::SeqCst) == SHUT_DOWN
     }
 
-    // The pool takes no more tasks. `None` where that was so already.
+    // The pool takes no more tasks. `None` where that was so already. No clause says so: only this and `shut_down` make a `Closing`, and only `end` ends it.
     pub(crate) fn close(&self) -> Option<Closing> {
         if self.go_on(OPEN, CLOSED) {
             return Some(Closing(()));
@@ -55,6 +57,7 @@ impl Stage {
         None
     }
 
+    // The pool is shut down from here on. As of `close`, no clause says so.
     pub(crate) fn shut_down(&self) -> Closing {
         self.word.store(SHUT_DOWN, Ordering::SeqCst);
         Closing(())
@@ -76,6 +79,7 @@ impl Stage {
         (passed, crew.bells().interrupt_all())
     }
 
+    // Goes on from one stage to a later one. False where the word showed another one. No clause says what it shows.
     fn go_on(&self, from: u64, to: u64) -> bool {
         self.word
             .compare_exchange(from, to, Ordering::SeqCst, Ordering::SeqCst)

@@ -1,9 +1,10 @@
 //! The turns of workers: one worker, what all workers need, and a worker that waits for one Task.
-ghost use Rattle.std.specs.Prelude.{◌≡◌, ◌≤◌, ◌↔◌, ℕ, IfOk, IfSome};
+ghost use Rattle.std.specs.Prelude.{◌≡◌, ◌≤◌, ◌↔◌, ℕ, [], length, true, false, IfOk, IfSome, IsNone, IsSome, IsTrue};
 ghost use Rattle.std.specs.Arc.{arc_value};
 ghost use mathlib.Core.Option.{some};
 ghost use lib.ListN.{get_elem?};
 ghost use Rattle.executor_parts.specs.Answered.{answer_of};
+ghost use Rattle.executor.specs.Hands.{ComesFirst};
 ghost use Rattle.executor.specs.Wakes.{RingsWorker};
 ghost use Rattle.work_queues.specs.Settled.{OwesNothing};
 
@@ -62,6 +63,8 @@ impl<R: Wait + Drop + Copy, F: Yields, A: Wake, B: Allocator + Copy, M: Drop> Po
     /// The turns of the worker of this number. Once they are dropped, the number is free again.
     pub fn turns(&self, worker: usize) -> Result<Turns<'_, R, F, A, B, M>, TurnsError>
         ensures worker { IfOk result (λ turns. turns.worker.number ≡ worker) }
+        ensures owes { IfOk result (λ turns. OwesNothing turns.worker) }
+        ensures hands { IfOk result (λ turns. turns.worker.batch.items ≡ []) }
         ensures none { result ≡ Err TurnsError.NoSuchWorker ↔ ((arc_value self.now.crew.bells).workers ≤ worker) }
     {
         match self.crew.worker(self.items, worker) {
@@ -78,6 +81,7 @@ impl<R: Wait + Drop + Copy, F: Yields, A: Wake, B: Allocator + Copy, M: Drop> Po
 
     /// The turns of all workers, in the order of their numbers. The error is never `NoSuchWorker`.
     pub fn all_turns(&self) -> Result<Vec<Turns<'_, R, F, A, B, M>>, TurnsError>
+        ensures count { IfOk result (λ all. length all.items ≡ (arc_value self.now.crew.bells).workers) }
         ensures each { IfOk result (λ all. (i : ℕ) (turns : _) → get_elem? all.items i ≡ some turns → turns.worker.number ≡ i) }
     {
         let mut all = Vec::new(self.alloc);
@@ -91,6 +95,7 @@ impl<R: Wait + Drop + Copy, F: Yields, A: Wake, B: Allocator + Copy, M: Drop> Po
     pub fn run<'x>(&'x self, worker: usize) -> Result<(), TurnsError>
     where
         F: Future<PoolWaker<'x, R, F, A, B, M>>,
+        ensures none { result ≡ Err TurnsError.NoSuchWorker ↔ ((arc_value self.now.crew.bells).workers ≤ worker) }
     {
         let mut turns = self.turns(worker)?;
         turns.work();
@@ -108,7 +113,8 @@ impl<'x, R: Wait + Drop + Copy, F: Yields, A: Wake, B: Allocator + Copy, M: Drop
 > {
     /// The pool, and the number of this worker: what a handle of the pool carries that is made or woken on this thread.
     pub fn place(&self) -> Place<'x, R, F, A, B, M>
-        ensures { result.1 ≡ self.now.worker.number }
+        ensures pool { result.0.now ≡ self.now.pool.now }
+        ensures worker { result.1 ≡ self.now.worker.number }
     {
         (self.pool, self.worker.number())
     }
@@ -131,6 +137,8 @@ impl<'x, R: Wait + Drop + Copy, F: Yields, A: Wake, B: Allocator + Copy, M: Drop
     /// The next Runnable for this worker: its own, one that came from outside, or one of another worker. `None` where there is none, or only such as this worker leaves to another one that is about to run them. Run it; its drop cancels its task.
     pub fn next(&mut self) -> Option<PoolRunnable<'x, R, F, A, B, M>>
         ensures place { IfSome result (λ runnable. runnable.around.1 ≡ self.old.worker.number) }
+        ensures first { ComesFirst (λ queued runnable. runnable.inner ≡ queued.inner) self.old.worker.batch.items result self.new.worker.batch.items }
+        ensures hands { IsNone result → self.new.worker.batch.items ≡ [] }
         ensures settled { OwesNothing self.new.worker }
     {
         let place = self.place();
@@ -142,6 +150,9 @@ impl<'x, R: Wait + Drop + Copy, F: Yields, A: Wake, B: Allocator + Copy, M: Drop
     // As `next`, but where it finds none the worker owes what it did before.
     fn find(&mut self, place: Place<'x, R, F, A, B, M>) -> Option<PoolRunnable<'x, R, F, A, B, M>>
         ensures place { IfSome result (λ runnable. runnable.around.1 ≡ place.entry.1) }
+        ensures first { ComesFirst (λ queued runnable. runnable.inner ≡ queued.inner) self.old.worker.batch.items result self.new.worker.batch.items }
+        ensures hands { IsNone result → self.new.worker.batch.items ≡ [] }
+        ensures owes { IsSome result → OwesNothing self.new.worker }
     {
         let runnable = self.pool.crew.find(&self.pool.rt, &mut self.worker)?;
         Some(runnable.with_around(place))
@@ -151,6 +162,7 @@ impl<'x, R: Wait + Drop + Copy, F: Yields, A: Wake, B: Allocator + Copy, M: Drop
     pub fn tick(&mut self) -> bool
     where
         F: Future<PoolWaker<'x, R, F, A, B, M>>,
+        ensures hands { result ≡ false → self.new.worker.batch.items ≡ [] }
         ensures settled { OwesNothing self.new.worker }
     {
         run_if_any(self.next())
@@ -159,6 +171,8 @@ impl<'x, R: Wait + Drop + Copy, F: Yields, A: Wake, B: Allocator + Copy, M: Drop
     /// Searches for a while, if no other worker does, and then sleeps, if no queue shows a Runnable, the pool was not shut down, and the bells counted no interruption since `interruptions`. It may also end its rest for no reason. Then it wakes one task whose number was posted, and takes the next Runnable, if there is one. Run it. `take_turn` rests where it is due.
     pub fn rest(&mut self, interruptions: u64) -> Option<PoolRunnable<'x, R, F, A, B, M>>
         ensures place { IfSome result (λ runnable. runnable.around.1 ≡ self.old.worker.number) }
+        ensures first { ComesFirst (λ queued runnable. runnable.inner ≡ queued.inner) self.old.worker.batch.items result self.new.worker.batch.items }
+        ensures hands { IsNone result → self.new.worker.batch.items ≡ [] }
         ensures settled { OwesNothing self.new.worker }
     {
         let place = self.place();
@@ -167,7 +181,9 @@ impl<'x, R: Wait + Drop + Copy, F: Yields, A: Wake, B: Allocator + Copy, M: Drop
     }
 
     // Searches and sleeps, as `rest` says, no longer than a limit. The worker may owe something then.
-    fn rest_within<L: Limit>(&mut self, interruptions: u64, limit: &L) {
+    fn rest_within<L: Limit>(&mut self, interruptions: u64, limit: &L)
+        ensures { self.new.worker.batch ≡ self.old.worker.batch }
+    {
         // A caller who counted the interruptions after the shutdown would sleep for ever.
         if self.pool.is_shut_down() {
             return;
@@ -183,6 +199,8 @@ impl<'x, R: Wait + Drop + Copy, F: Yields, A: Wake, B: Allocator + Copy, M: Drop
         place: Place<'x, R, F, A, B, M>,
     ) -> Option<PoolRunnable<'x, R, F, A, B, M>>
         ensures place { IfSome result (λ runnable. runnable.around.1 ≡ place.entry.1) }
+        ensures first { ComesFirst (λ queued runnable. runnable.inner ≡ queued.inner) self.old.worker.batch.items result self.new.worker.batch.items }
+        ensures hands { IsNone result → self.new.worker.batch.items ≡ [] }
         ensures settled { OwesNothing self.new.worker }
     {
         wake_posted(place);
@@ -194,6 +212,8 @@ impl<'x, R: Wait + Drop + Copy, F: Yields, A: Wake, B: Allocator + Copy, M: Drop
     /// A turn but for the run of what it takes: wakes one task whose number was posted, and takes the next Runnable. At the first and each 64th turn, and where there is none, it frees what keys left. Where there is neither it rests, as `rest` says, if the bells counted no interruption since `interruptions`: so ask for them before the last look at what the loop waits for. Run what it answers.
     pub fn take_turn(&mut self, interruptions: u64) -> Option<PoolRunnable<'x, R, F, A, B, M>>
         ensures place { IfSome result (λ runnable. runnable.around.1 ≡ self.old.worker.number) }
+        ensures first { ComesFirst (λ queued runnable. runnable.inner ≡ queued.inner) self.old.worker.batch.items result self.new.worker.batch.items }
+        ensures hands { IsNone result → self.new.worker.batch.items ≡ [] }
         ensures settled { OwesNothing self.new.worker }
     {
         self.take_turn_within(interruptions, &NoLimit)
@@ -206,6 +226,8 @@ impl<'x, R: Wait + Drop + Copy, F: Yields, A: Wake, B: Allocator + Copy, M: Drop
         limit: &L,
     ) -> Option<PoolRunnable<'x, R, F, A, B, M>>
         ensures place { IfSome result (λ runnable. runnable.around.1 ≡ self.old.worker.number) }
+        ensures first { ComesFirst (λ queued runnable. runnable.inner ≡ queued.inner) self.old.worker.batch.items result self.new.worker.batch.items }
+        ensures hands { IsNone result → self.new.worker.batch.items ≡ [] }
         ensures settled { OwesNothing self.new.worker }
     {
         let place = self.place();
@@ -226,6 +248,9 @@ impl<'x, R: Wait + Drop + Copy, F: Yields, A: Wake, B: Allocator + Copy, M: Drop
         limit: &L,
     ) -> Option<PoolRunnable<'x, R, F, A, B, M>>
         ensures place { IfSome result (λ runnable. runnable.around.1 ≡ place.entry.1) }
+        ensures first { ComesFirst (λ queued runnable. runnable.inner ≡ queued.inner) self.old.worker.batch.items result self.new.worker.batch.items }
+        ensures hands { IsNone result → self.new.worker.batch.items ≡ [] }
+        ensures owes { IsSome result → OwesNothing self.new.worker }
     {
         if self.count % COLLECTS == 0 {
             collect(place);
@@ -241,6 +266,8 @@ impl<'x, R: Wait + Drop + Copy, F: Yields, A: Wake, B: Allocator + Copy, M: Drop
 
     /// The next Runnable for this worker, for which it searches and sleeps where `next` answers `None`. Run it. `None` once the pool is shut down, or has finished: then no Runnable is left that this worker can find.
     pub fn await_next(&mut self) -> Option<PoolRunnable<'x, R, F, A, B, M>>
+        ensures place { IfSome result (λ runnable. runnable.around.1 ≡ self.old.worker.number) }
+        ensures hands { IsNone result → self.new.worker.batch.items ≡ [] }
         ensures settled { OwesNothing self.new.worker }
     {
         let next = self.await_within(&NoLimit);
@@ -252,7 +279,11 @@ impl<'x, R: Wait + Drop + Copy, F: Yields, A: Wake, B: Allocator + Copy, M: Drop
     pub(crate) fn await_within<L: Limit>(
         &mut self,
         limit: &L,
-    ) -> Option<PoolRunnable<'x, R, F, A, B, M>> {
+    ) -> Option<PoolRunnable<'x, R, F, A, B, M>>
+        ensures place { IfSome result (λ runnable. runnable.around.1 ≡ self.old.worker.number) }
+        ensures hands { IsNone result → self.new.worker.batch.items ≡ [] }
+        ensures owes { IsSome result → OwesNothing self.new.worker }
+    {
         let pool = self.pool;
         let place = self.place();
         let bells: &Bells = pool.bells();
@@ -268,7 +299,7 @@ impl<'x, R: Wait + Drop + Copy, F: Yields, A: Wake, B: Allocator + Copy, M: Drop
             } else {
                 self.turn(place, interruptions, limit)
             };
-            if next.is_some() || (finishes && pool.is_finished()) || limit.is_over() {
+            if next.is_some() || (finishes && pool.is_finished().is_some()) || limit.is_over() {
                 return next;
             }
         }
@@ -279,7 +310,12 @@ impl<'x, R: Wait + Drop + Copy, F: Yields, A: Wake, B: Allocator + Copy, M: Drop
     fn take_last_turn(
         &mut self,
         place: Place<'x, R, F, A, B, M>,
-    ) -> Option<PoolRunnable<'x, R, F, A, B, M>> {
+    ) -> Option<PoolRunnable<'x, R, F, A, B, M>>
+        ensures place { IfSome result (λ runnable. runnable.around.1 ≡ place.entry.1) }
+        ensures first { ComesFirst (λ queued runnable. runnable.inner ≡ queued.inner) self.old.worker.batch.items result self.new.worker.batch.items }
+        ensures hands { IsNone result → self.new.worker.batch.items ≡ [] }
+        ensures owes { IsSome result → OwesNothing self.new.worker }
+    {
         collect(place);
         wake_posted(place);
         self.find(place)
@@ -289,6 +325,7 @@ impl<'x, R: Wait + Drop + Copy, F: Yields, A: Wake, B: Allocator + Copy, M: Drop
     pub fn work(&mut self)
     where
         F: Future<PoolWaker<'x, R, F, A, B, M>>,
+        ensures hands { self.new.worker.batch.items ≡ [] }
         ensures settled { OwesNothing self.new.worker }
     {
         let pool = self.pool;
@@ -307,7 +344,8 @@ impl<'x, R: Wait + Drop + Copy, F: Yields, A: Wake, B: Allocator + Copy, M: Drop
     ) -> TaskPoll<Result<T::Output, TaskClosed>>
     where
         F: Future<PoolWaker<'x, R, F, A, B, M>>,
-        ensures { T.Awaited.answers task.old result task.new }
+        ensures answer { T.Awaited.answers task.old result task.new }
+        ensures hands { result ≡ TaskPoll.Pending → self.new.worker.batch.items ≡ [] }
     {
         let pool = self.pool;
         let place = self.place();
@@ -327,7 +365,9 @@ impl<'x, R: Wait + Drop + Copy, F: Yields, A: Wake, B: Allocator + Copy, M: Drop
     }
 
     // Whether the pool was shut down. Then this worker cancels what it finds: it may have moved Runnables past the shutdown.
-    pub(crate) fn ends(&mut self) -> bool {
+    pub(crate) fn ends(&mut self) -> bool
+        ensures { result ≡ true → self.new.worker.batch.items ≡ [] }
+    {
         let ends = self.pool.is_shut_down();
         if ends {
             self.cancel_found();
@@ -336,7 +376,9 @@ impl<'x, R: Wait + Drop + Copy, F: Yields, A: Wake, B: Allocator + Copy, M: Drop
     }
 
     // Drops the Runnables that this worker has in its hands, and those that it finds.
-    fn cancel_found(&mut self) {
+    fn cancel_found(&mut self)
+        ensures { self.new.worker.batch.items ≡ [] }
+    {
         let pool = self.pool;
         let place = self.place();
         for _ in pool.rt.forever() {
@@ -359,6 +401,7 @@ pub(crate) fn run_if_any<
 >(runnable: Option<PoolRunnable<'x, R, F, A, B, M>>) -> bool
 where
     F: Future<PoolWaker<'x, R, F, A, B, M>>,
+    ensures { IsTrue result ↔ IsSome runnable.entry }
 {
     match runnable {
         Some(runnable) => {
@@ -387,6 +430,7 @@ impl<'x, R: Wait + Drop + Copy, F: Yields, B: Allocator + Copy, M: Drop> Turns<
     where
         F: Future<PoolWaker<'x, R, F, BellAwaiter<R>, B, M>>,
         ensures answer { T.Awaited.answers task.old (answer_of result) task.new }
+        ensures hands { result ≡ Err BlockOnError.ShutDown → self.new.worker.batch.items ≡ [] }
         ensures settled { OwesNothing self.new.worker }
     {
         let Some(awaiter) = BellAwaiter::new(self.pool, self.worker.number()) else {

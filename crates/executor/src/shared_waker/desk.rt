@@ -1,6 +1,7 @@
 //! What an executor of one's own has for shared wakers: the wakers of its tasks, and the mailbox to which the numbers of those to be woken are posted.
-ghost use Rattle.std.specs.Prelude.{◌≡◌, IsNone, IsSome, IfSome, true};
+ghost use Rattle.std.specs.Prelude.{◌≡◌, ◌+◌, ◌*◌, ◌-◌, ◌^◌, IfOk, IsNone, IsSome, IfSome, min, true};
 ghost use Rattle.executor.specs.Desks.{IsOfDesk};
+ghost use Rattle.executor.specs.Keys.{IsKeyOf};
 
 use crate::shared_waker::seat::SharedWaker;
 use crate::store::{Key, Store};
@@ -28,7 +29,10 @@ pub struct Desk<R: Wait + Drop + Copy, H: Drop> {
 
 impl<R: Wait + Drop + Copy, H: Drop> Desk<R, H> {
     /// An empty desk, for so many tasks at a time that have shared wakers: one more is refused its own. `rt` is what its calls wait by, `alloc` where its memory comes from. An error says that there was no memory.
-    pub fn new(rt: R, alloc: Global, tasks: usize) -> Result<Desk<R, H>, AllocError> {
+    pub fn new(rt: R, alloc: Global, tasks: usize) -> Result<Desk<R, H>, AllocError>
+        ensures room { IfOk result (λ desk. desk.room ≡ min ((tasks + 1) * 8) (2 ^ 64 - 1)) }
+        ensures bell { IfOk result (λ desk. IsKeyOf desk.kept desk.bell) }
+    {
         let kept = Store::new(alloc)?;
         let bell = kept.reserve(rt, 0).ok_or(AllocError)?;
         let room = tasks.saturating_add(1).saturating_mul(NUMBERS_A_TASK);
@@ -80,7 +84,7 @@ impl<R: Wait + Drop + Copy, H: Drop> Desk<R, H> {
         }
     }
 
-    /// The waker of a task that is to be woken. Give it its surroundings, and wake it. `None` where none is due.
+    /// The waker of a task that is to be woken. Give it its surroundings, and wake it. `None` where none is due. No clause says which: mailbox and wakers are under locks, and a waker does not tell where it was.
     pub fn next(&self) -> Option<H> {
         for _ in self.rt.forever() {
             let number = self.mailbox.take()?;
@@ -91,23 +95,23 @@ impl<R: Wait + Drop + Copy, H: Drop> Desk<R, H> {
         unreachable!()
     }
 
-    /// Sleeps until a number is posted or the bell is rung, and answers the waker of that number as `next` does. `None` where there is none: look at your queue again.
+    /// Sleeps until a number is posted or the bell is rung, and answers the waker of that number as `next` does. `None` where there is none: look at your queue again. As of `next`, no clause says which.
     pub fn wait(&self) -> Option<H> {
         let number = self.mailbox.wait();
         self.kept.take(&self.rt, number)
     }
 
-    /// Ends the sleep of a thread in `wait`, or the next one, as where a Runnable was pushed to the queue of the executor.
+    /// Ends the sleep of a thread in `wait`, or the next one, as where a Runnable was pushed to the queue of the executor. No clause says so, since the numbers of a mailbox are under its lock.
     pub fn ring(&self) {
         self.mailbox.post(self.bell.number());
     }
 
-    /// A waker that is left of a task whose shared wakers are gone. Give it its surroundings, and drop it. `None` where none is left.
+    /// A waker that is left of a task whose shared wakers are gone. Give it its surroundings, and drop it. `None` where none is left. As of `Store::collect`, no clause says which.
     pub fn collect(&self) -> Option<H> {
         self.kept.collect(&self.rt)
     }
 
-    /// How many places are taken: that of the bell, those of tasks with shared wakers, and those that are not collected yet.
+    /// How many places are taken: that of the bell, those of tasks with shared wakers, and those that are not collected yet. As of `Store::len`, no clause says how many.
     pub fn places(&self) -> usize {
         self.kept.len(&self.rt)
     }
