@@ -2,9 +2,11 @@
 ghost use Rattle.std.specs.Prelude.{◌≡◌, ◌==◌, ◌<◌, ◌≤◌, ◌↔◌, if◌then◌else◌, []};
 ghost use Rattle.std.specs.Prelude.{IsTrue, IsSome, IfSome, IfOk, IsOkAnd, codes};
 ghost use Rattle.rows_fixtures.specs.Arguments.{AreTheWord, AskForRows, AskForHelp};
+ghost use Rattle.rows_fixtures.specs.declared.report.Asked.TheVariants.{WithoutThreads, Threads, All};
 
+use crate::counters::Counts;
 use crate::outcome::{Missing, Outcome};
-use crate::row::Row;
+use crate::row::{ROWS, Row};
 use std::io;
 
 const USAGE: &str = "usage: taskrows [threads | all | --help]";
@@ -17,7 +19,26 @@ Runs worked rows, and prints a line for each. Without arguments these are the ro
     --help     this text
 ";
 
-/// Runs the rows that the arguments ask for, by `run`, and prints a line for each and one at the end.
+// Which rows are asked for.
+#[derive(Clone, Copy)]
+enum Asked {
+    WithoutThreads,
+    Threads,
+    All,
+}
+
+impl Asked {
+    // Whether that row is asked for.
+    fn has(self, row: &Row) -> bool {
+        match self {
+            Asked::WithoutThreads => !row.needs_thread(),
+            Asked::Threads => row.needs_thread(),
+            Asked::All => true,
+        }
+    }
+}
+
+/// Runs the rows that the arguments ask for, by `run`, which gets the number of a row and the counters at its end, and prints a line for each and one at the end.
 ///
 /// The status is 0 where all rows agree, and 1 where one does not, or where a writer fails, which is told on `err`. After the help it is 0 too.
 /// Arguments that ask for neither are refused.
@@ -28,7 +49,7 @@ pub fn answer<N, W: io::Write, E: io::Write>(
     err: &mut E,
 ) -> u8
 where
-    N: Fn(Row) -> Result<Outcome, Missing>,
+    N: Fn(u8, Counts) -> Result<Outcome, Missing>,
     requires { N.IsAlwaysCallable run.now }
     ensures status { result ≤ 2 }
     ensures asked { AskForRows args.now → result ≤ 1 }
@@ -73,7 +94,7 @@ fn try_answer<N, W: io::Write, E: io::Write>(
     err: &mut E,
 ) -> io::Result<u8>
 where
-    N: Fn(Row) -> Result<Outcome, Missing>,
+    N: Fn(u8, Counts) -> Result<Outcome, Missing>,
     requires { N.IsAlwaysCallable run.now }
     ensures asked { AskForRows args.now → IfOk result (λ status. status ≤ 1) }
     ensures help { AskForHelp args.now → IfOk result (λ status. status ≡ 0) }
@@ -107,34 +128,36 @@ fn print_help<W: io::Write>(out: &mut W) -> io::Result<u8>
 }
 
 // The rows that the arguments ask for.
-fn asked_rows(args: &[String]) -> Option<&'static [Row]>
+fn asked_rows(args: &[String]) -> Option<Asked>
     ensures known { IsSome result ↔ AskForRows args.now }
-    ensures none { args.now ≡ [] → IfSome result (λ asked. asked.now ≡ Row.WITHOUT_THREADS) }
-    ensures threads { AreTheWord (codes "threads") args.now → IfSome result (λ asked. asked.now ≡ Row.THREADS) }
-    ensures all { AreTheWord (codes "all") args.now → IfSome result (λ asked. asked.now ≡ Row.ALL) }
+    ensures none { args.now ≡ [] → IfSome result (λ asked. asked ≡ WithoutThreads) }
+    ensures threads { AreTheWord (codes "threads") args.now → IfSome result (λ asked. asked ≡ Threads) }
+    ensures all { AreTheWord (codes "all") args.now → IfSome result (λ asked. asked ≡ All) }
 {
     match args {
-        [] => Some(&Row::WITHOUT_THREADS),
-        [word] if word.as_str() == "threads" => Some(&Row::THREADS),
-        [word] if word.as_str() == "all" => Some(&Row::ALL),
+        [] => Some(Asked::WithoutThreads),
+        [word] if word.as_str() == "threads" => Some(Asked::Threads),
+        [word] if word.as_str() == "all" => Some(Asked::All),
         _ => None,
     }
 }
 
 // Runs these rows, prints a line for each and the last line, and answers the status.
-fn print_rows<N, W: io::Write>(rows: &[Row], run: &N, out: &mut W) -> io::Result<u8>
+fn print_rows<N, W: io::Write>(asked: Asked, run: &N, out: &mut W) -> io::Result<u8>
 where
-    N: Fn(Row) -> Result<Outcome, Missing>,
+    N: Fn(u8, Counts) -> Result<Outcome, Missing>,
     requires { N.IsAlwaysCallable run.now }
     ensures { IfOk result (λ status. status ≤ 1) }
 {
     let mut agreeing = 0;
-    for row in rows {
-        if print_row(*row, run(*row), out)? {
-            agreeing += 1;
+    let mut total = 0;
+    for row in ROWS {
+        if asked.has(&row) {
+            total += 1;
+            agreeing += usize::from(print_row(&row, run(row.number, row.counts), out)?);
         }
     }
-    print_total(agreeing, rows.len(), out)
+    print_total(agreeing, total, out)
 }
 
 // Prints the last line. The status is 0 where all rows agree, else 1.
@@ -148,7 +171,7 @@ fn print_total<W: io::Write>(agreeing: usize, total: usize, out: &mut W) -> io::
 
 // Prints what a row answered, and says whether it agrees.
 fn print_row<W: io::Write>(
-    row: Row,
+    row: &Row,
     outcome: Result<Outcome, Missing>,
     out: &mut W,
 ) -> io::Result<bool>

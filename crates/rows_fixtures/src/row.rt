@@ -1,226 +1,321 @@
-//! The worked rows: their numbers, their names, and which of them need threads.
+//! The worked rows.
 
+use crate::counters::Counts;
 use std::fmt;
 
-/// A row, and its number.
+/// A row.
 #[derive(Clone, Copy)]
-pub enum Row {
-    /// A Runnable's drop, then `detach`.
-    DropAndDetach = 1,
-    /// `detach`, then the Runnable's drop.
-    DetachAndDrop = 2,
-    /// `detach`, then a run that completes.
-    DetachAndRun = 3,
-    /// A run that completes, then `detach`.
-    RunAndDetach = 4,
-    /// The Task's drop, then a run.
-    CancelAndRun = 5,
-    /// A poll of the Task before the run and one after it.
-    CancelJoin = 6,
-    /// A waker that wakes twice, by reference and by value.
-    Waker = 7,
-    /// Clones of a waker, and a wake of a task that has completed.
-    WakerClone = 8,
-    /// Two wakes of a detached task, the second after it has completed.
-    WakerWake = 9,
-    /// A wake whose Runnable is dropped, then one more wake.
-    WakeDropped = 10,
-    /// The drop of the last waker of a detached task that is pending.
-    DropLastWaker = 11,
-    /// A waker beyond the limit of references.
-    Limit = 12,
-    /// `detach`, then a run that ends pending.
-    LastRun = 13,
-    /// Polls of a Task whose Runnable was dropped.
-    ClosedPoll = 14,
-    /// A poll whose awaiter refuses to be cloned, after one that stored another awaiter.
-    RefusedClone = 15,
-    /// A wake by another thread during a poll.
-    WakeDuringRun = 16,
-    /// A Cancel that is polled before the run and after it.
-    CancelFuture = 17,
-    /// Three tasks with metadata, run in the order of it.
-    Priorities = 18,
-    /// A task of one thread.
-    Local = 20,
-    /// A poll of the Task, `detach`, and a run that completes.
-    AwaiterCompletes = 21,
-    /// A poll of the Task, `detach`, and a run that ends pending.
-    AwaiterOrphan = 22,
-    /// `schedule`, three times.
-    ScheduleCounter = 23,
-    /// A future that adds, and a poll of its Task.
-    Sum = 24,
-    /// A run that completes, then a Cancel that is polled.
-    RunAndCancel = 25,
-    /// A schedule value that drops the Runnable.
-    DropInSchedule = 26,
-    /// The Task's drop by another thread during a poll.
-    CancelDuringRun = 27,
-    /// A wake and then the Task's drop, by another thread during a poll.
-    WakeAndCancel = 29,
-    /// The Task's drop and then a wake, by another thread during a poll.
-    CancelAndWake = 30,
-    /// `detach` by another thread during a poll that answers ready.
-    DetachDuringRun = 31,
-    /// The Task's drop by another thread during a poll that answers ready.
-    DropDuringRun = 32,
-    /// A poll of the Task by another thread during a poll of the future.
-    PollDuringRun = 33,
-    /// A Cancel whose awaiter refuses to be cloned.
-    CancelRefused = 34,
-    /// Three Runnables that are dropped out of the queue.
-    ClearQueue = 35,
-    /// A wake whose Runnable the schedule value drops.
-    WakeIntoDrop = 36,
-    /// A poll that drops the Task.
-    DropInPoll = 37,
-    /// Four tasks of given priorities, two of them alike.
-    Priority = 38,
-    /// A task that wakes itself during its first poll, beside one of lower priority.
-    PriorityYield = 39,
-    /// Two tasks, and a queue with room for one.
-    PriorityFull = 40,
+pub struct Row {
+    /// Its number.
+    pub number: u8,
+    /// The name that is printed.
+    pub name: &'static str,
+    /// The counters at its end, before the handles that are left are dropped.
+    pub counts: Counts,
+    /// Its script, if it is one. After each call it tells what is to be seen.
+    pub steps: &'static str,
 }
 
 impl Row {
-    /// The rows, in order of number.
-    pub const ALL: [Row; 38] = [
-        Row::DropAndDetach,
-        Row::DetachAndDrop,
-        Row::DetachAndRun,
-        Row::RunAndDetach,
-        Row::CancelAndRun,
-        Row::CancelJoin,
-        Row::Waker,
-        Row::WakerClone,
-        Row::WakerWake,
-        Row::WakeDropped,
-        Row::DropLastWaker,
-        Row::Limit,
-        Row::LastRun,
-        Row::ClosedPoll,
-        Row::RefusedClone,
-        Row::WakeDuringRun,
-        Row::CancelFuture,
-        Row::Priorities,
-        Row::Local,
-        Row::AwaiterCompletes,
-        Row::AwaiterOrphan,
-        Row::ScheduleCounter,
-        Row::Sum,
-        Row::RunAndCancel,
-        Row::DropInSchedule,
-        Row::CancelDuringRun,
-        Row::WakeAndCancel,
-        Row::CancelAndWake,
-        Row::DetachDuringRun,
-        Row::DropDuringRun,
-        Row::PollDuringRun,
-        Row::CancelRefused,
-        Row::ClearQueue,
-        Row::WakeIntoDrop,
-        Row::DropInPoll,
-        Row::Priority,
-        Row::PriorityYield,
-        Row::PriorityFull,
-    ];
-
-    /// The rows that need no threads, in order of number.
-    pub const WITHOUT_THREADS: [Row; 31] = [
-        Row::DropAndDetach,
-        Row::DetachAndDrop,
-        Row::DetachAndRun,
-        Row::RunAndDetach,
-        Row::CancelAndRun,
-        Row::CancelJoin,
-        Row::Waker,
-        Row::WakerClone,
-        Row::WakerWake,
-        Row::WakeDropped,
-        Row::DropLastWaker,
-        Row::Limit,
-        Row::LastRun,
-        Row::ClosedPoll,
-        Row::RefusedClone,
-        Row::CancelFuture,
-        Row::Priorities,
-        Row::Local,
-        Row::AwaiterCompletes,
-        Row::AwaiterOrphan,
-        Row::ScheduleCounter,
-        Row::Sum,
-        Row::RunAndCancel,
-        Row::DropInSchedule,
-        Row::CancelRefused,
-        Row::ClearQueue,
-        Row::WakeIntoDrop,
-        Row::DropInPoll,
-        Row::Priority,
-        Row::PriorityYield,
-        Row::PriorityFull,
-    ];
-
-    /// The rows that need threads, in order of number.
-    pub const THREADS: [Row; 7] = [
-        Row::WakeDuringRun,
-        Row::CancelDuringRun,
-        Row::WakeAndCancel,
-        Row::CancelAndWake,
-        Row::DetachDuringRun,
-        Row::DropDuringRun,
-        Row::PollDuringRun,
-    ];
-
-    /// The name that is printed.
-    pub fn name(self) -> &'static str {
-        match self {
-            Row::DropAndDetach => "drop_and_detach",
-            Row::DetachAndDrop => "detach_and_drop",
-            Row::DetachAndRun => "detach_and_run",
-            Row::RunAndDetach => "run_and_detach",
-            Row::CancelAndRun => "cancel_and_run",
-            Row::CancelJoin => "cancel_join",
-            Row::Waker => "waker",
-            Row::WakerClone => "clone",
-            Row::WakerWake => "wake",
-            Row::WakeDropped => "wake_dropped",
-            Row::DropLastWaker => "drop_last_waker",
-            Row::Limit => "limit",
-            Row::LastRun => "last_run",
-            Row::ClosedPoll => "closed_poll",
-            Row::RefusedClone => "refused_clone",
-            Row::WakeDuringRun => "wake_during_run",
-            Row::CancelFuture => "cancel_future",
-            Row::Priorities => "priorities",
-            Row::Local => "local",
-            Row::AwaiterCompletes => "awaiter_completes",
-            Row::AwaiterOrphan => "awaiter_orphan",
-            Row::ScheduleCounter => "schedule_counter",
-            Row::Sum => "sum",
-            Row::RunAndCancel => "run_and_cancel",
-            Row::DropInSchedule => "drop_in_schedule",
-            Row::CancelDuringRun => "cancel_during_run",
-            Row::WakeAndCancel => "wake_and_cancel",
-            Row::CancelAndWake => "cancel_and_wake",
-            Row::DetachDuringRun => "detach_during_run",
-            Row::DropDuringRun => "drop_during_run",
-            Row::PollDuringRun => "poll_during_run",
-            Row::CancelRefused => "cancel_refused",
-            Row::ClearQueue => "clear_queue",
-            Row::WakeIntoDrop => "wake_into_drop",
-            Row::DropInPoll => "drop_in_poll",
-            Row::Priority => "priority",
-            Row::PriorityYield => "priority_yield",
-            Row::PriorityFull => "priority_full",
-        }
+    /// Whether it needs a second thread.
+    pub fn needs_thread(&self) -> bool {
+        self.steps.contains('|')
     }
 }
 
 impl fmt::Display for Row {
     fn fmt<W: fmt::Write>(&self, f: &mut fmt::Formatter<W>) -> fmt::Result {
-        let number = *self as u8;
-        let name = self.name();
+        let number = self.number;
+        let name = self.name;
         write!(f, "{number:02} {name}")
     }
 }
+
+/// The rows, in order of number.
+pub const ROWS: [Row; 38] = [
+    // The Runnable is dropped, then the Task is detached.
+    Row {
+        number: 1,
+        name: "drop_and_detach",
+        counts: Counts(0, 0, 1, 1),
+        steps: "spawn ready 1; drop_runnable; counted 0 0 1 0; detach",
+    },
+    // The Task is detached, then the Runnable is dropped.
+    Row {
+        number: 2,
+        name: "detach_and_drop",
+        counts: Counts(0, 0, 1, 1),
+        steps: "spawn ready 1; detach; counted 0 0 0 0; drop_runnable",
+    },
+    // The Task is detached, then the run completes and drops the output.
+    Row {
+        number: 3,
+        name: "detach_and_run",
+        counts: Counts(1, 0, 1, 1),
+        steps: "spawn ready 1; detach; counted 0 0 0 0; run; outputs 1",
+    },
+    // The run completes, then the Task is detached, which drops the output.
+    Row {
+        number: 4,
+        name: "run_and_detach",
+        counts: Counts(1, 0, 1, 1),
+        steps: "spawn ready 1; run; counted 1 0 1 0; outputs 0; detach; outputs 1",
+    },
+    // The Task is dropped, which cancels; then the run drops the future unpolled.
+    Row {
+        number: 5,
+        name: "cancel_and_run",
+        counts: Counts(0, 0, 1, 1),
+        steps: "spawn ready 1; drop_task; counted 0 0 0 0; run",
+    },
+    // The Task is polled before and after the run, which wakes its awaiter; the second poll gets the output.
+    Row {
+        number: 6,
+        name: "cancel_join",
+        counts: Counts(1, 0, 1, 1),
+        steps: "spawn ready 1; poll 1 waits; woken 1 0; run; woken 1 1; poll 1 gives 1; counted 1 0 1 0; drop_task; \
+                woken 1 1",
+    },
+    // A waker of the Runnable wakes the task after each of two runs.
+    Row {
+        number: 7,
+        name: "waker",
+        counts: Counts(2, 2, 0, 0),
+        steps: "spawn pending; waker; run; wake_by_ref; queued 1; receive; run; wake; queued 1; told false false",
+    },
+    // Clones of the waker that the future kept: one wakes the task, and one the completed task, which changes nothing.
+    Row {
+        number: 8,
+        name: "clone",
+        counts: Counts(2, 1, 1, 1),
+        steps: "spawn keep 1; detach; run; take_stored; clone_waker; drop_waker; clone_waker; clone_waker; wake; \
+                receive; run; counted 2 1 1 0; wake; counted 2 1 1 0; queued 0; drop_waker; take_stored; drop_waker",
+    },
+    // The wakers that the future kept wake a detached task: the first its second run, the second nobody.
+    Row {
+        number: 9,
+        name: "wake",
+        counts: Counts(2, 1, 1, 1),
+        steps: "spawn keep 1; detach; run; counted 1 0 0 0; take_stored; wake; counted 1 1 0 0; receive; run; \
+                counted 2 1 1 0; take_stored; wake",
+    },
+    // The Runnable of a wake is dropped, which closes the task: a further wake changes nothing.
+    Row {
+        number: 10,
+        name: "wake_dropped",
+        counts: Counts(1, 1, 1, 1),
+        steps: "spawn keep 1; detach; run; take_stored; wake_by_ref; receive; drop_runnable; counted 1 1 1 0; \
+                queued 0; wake; queued 0",
+    },
+    // The last waker of a detached task is dropped, which schedules a closing Runnable: its run drops the future unpolled.
+    Row {
+        number: 11,
+        name: "drop_last_waker",
+        counts: Counts(1, 1, 1, 1),
+        steps: "spawn keep_pending; run; take_stored; detach; counted 1 0 0 0; drop_waker; counted 1 1 0 0; \
+                queued 1; told false; receive; run",
+    },
+    // A task that may have two references: a waker beyond them is refused, also where a wake has made a Runnable.
+    Row {
+        number: 12,
+        name: "limit",
+        counts: Counts(1, 1, 0, 0),
+        steps: "spawn_limited 2 pending; waker; waker_refused; runnable_shows 211; run; shows 110; wake_by_ref; \
+                queued 1; shows 211; clone_refused; shows 211",
+    },
+    // The last run of a detached task ends pending and schedules a closing Runnable, whose run drops the future unpolled.
+    Row {
+        number: 13,
+        name: "last_run",
+        counts: Counts(1, 1, 1, 1),
+        steps: "spawn pending; detach; run; counted 1 1 0 0; queued 1; told false; receive; run",
+    },
+    // The Runnable is dropped, which closes the task and wakes the awaiter: each later poll answers that no output will come.
+    Row {
+        number: 14,
+        name: "closed_poll",
+        counts: Counts(0, 0, 1, 0),
+        steps: "spawn ready 1; poll 1 waits; woken 1 0; drop_runnable; woken 1 1; finished; poll 1 closed; \
+                poll 1 closed; fallible; poll 1 closed; poll 1 closed; woken 1 1",
+    },
+    // A second poll whose clone is refused leaves the stored awaiter, which the run then wakes.
+    Row {
+        number: 15,
+        name: "refused_clone",
+        counts: Counts(1, 0, 1, 0),
+        steps: "spawn ready 1; poll 1 waits; woken 1 0; refuse_clone 2; poll 2 refused; woken 1 0; shows 131; run; \
+                woken 1 1; woken 2 0",
+    },
+    // The first thread wakes the task while it is polled: the run schedules its Runnable once more.
+    Row {
+        number: 16,
+        name: "wake_during_run",
+        counts: Counts(1, 1, 0, 0),
+        steps: "spawn pending; waker | run again | wake_by_ref | told true",
+    },
+    // The first poll of a Cancel cancels the task: the run drops the future unpolled, and then the Cancel is ready.
+    Row {
+        number: 17,
+        name: "cancel_future",
+        counts: Counts(0, 0, 1, 0),
+        steps: "spawn ready 1; cancel; poll 1 waits; finished; woken 1 0; counted 0 0 0 0; run; woken 1 1; \
+                counted 0 0 1 0; poll 1 closed; woken 1 1",
+    },
+    // Three tasks are scheduled in ascending order of priority, and run in descending order.
+    Row {
+        number: 18,
+        name: "priorities",
+        counts: Counts(3, 3, 3, 0),
+        steps: "",
+    },
+    // A task of one thread is woken while its future is polled, cancelled while it is queued again, and ends without a second poll.
+    Row {
+        number: 20,
+        name: "local",
+        counts: Counts(1, 1, 1, 0),
+        steps: "",
+    },
+    // The run of a task that was detached while it was awaited wakes the awaiter.
+    Row {
+        number: 21,
+        name: "awaiter_completes",
+        counts: Counts(1, 0, 1, 1),
+        steps: "spawn ready 1; poll 1 waits; woken 1 0; detach; woken 1 0; run; woken 1 1",
+    },
+    // The last run of a task that was detached while it was awaited forgets the awaiter, which is dropped unwoken.
+    Row {
+        number: 22,
+        name: "awaiter_orphan",
+        counts: Counts(1, 1, 1, 1),
+        steps: "spawn pending; poll 1 waits; woken 1 0; detach; run; counted 1 1 0 0; queued 1; told false; receive; \
+                run; ends 1 1 0 1",
+    },
+    // A Runnable is scheduled three times, and goes through the queue each time.
+    Row {
+        number: 23,
+        name: "schedule_counter",
+        counts: Counts(0, 3, 0, 0),
+        steps: "spawn pending; schedule; queued 1; receive; schedule; queued 1; receive; schedule; queued 1; \
+                told false false false",
+    },
+    // The output of a future is what the Task's poll answers.
+    Row {
+        number: 24,
+        name: "sum",
+        counts: Counts(1, 0, 1, 0),
+        steps: "spawn sum 1 2; run; poll 1 gives 3",
+    },
+    // A Cancel of a task that has completed gets the output.
+    Row {
+        number: 25,
+        name: "run_and_cancel",
+        counts: Counts(1, 0, 1, 1),
+        steps: "spawn ready 1; run; counted 1 0 1 0; outputs 0; cancel; poll 1 gives 1; outputs 1; drop_task; \
+                outputs 1",
+    },
+    // The schedule value drops the Runnable, which closes the task, and returns before it is dropped itself.
+    Row {
+        number: 26,
+        name: "drop_in_schedule",
+        counts: Counts(0, 1, 1, 0),
+        steps: "drop_each; spawn ready 1; schedule; noted handed future returned; fallible; poll 1 closed",
+    },
+    // The first thread drops the Task while the future is polled: the run drops the future, and nothing is scheduled.
+    Row {
+        number: 27,
+        name: "cancel_during_run",
+        counts: Counts(2, 1, 1, 1),
+        steps: "spawn keep_pending; run; take_stored; wake; receive | run | drop_task; counted 2 1 0 0; outputs 0 | \
+                queued 0; told false; counted 2 1 1 0; take_stored; drop_waker",
+    },
+    // The first thread wakes the task while the future is polled, and then drops the Task: the run drops the future.
+    Row {
+        number: 29,
+        name: "wake_and_cancel",
+        counts: Counts(2, 1, 1, 1),
+        steps: "spawn keep_pending; run; take_stored; wake_by_ref; receive | run | wake; counted 2 1 0 0; drop_task; \
+                counted 2 1 0 0 | take_stored; drop_waker",
+    },
+    // The first thread drops the Task while the future is polled, and then wakes: the run drops the future.
+    Row {
+        number: 30,
+        name: "cancel_and_wake",
+        counts: Counts(2, 1, 1, 1),
+        steps: "spawn keep_pending; run; take_stored; wake_by_ref; receive | run | drop_task; counted 2 1 0 0; wake; \
+                counted 2 1 0 0 | take_stored; drop_waker",
+    },
+    // The first thread detaches the Task while the future is polled: the run drops the output.
+    Row {
+        number: 31,
+        name: "detach_during_run",
+        counts: Counts(1, 0, 1, 1),
+        steps: "spawn ready 1 | run | detach; counted 1 0 0 0; outputs 0 | outputs 1",
+    },
+    // The first thread drops the Task while the future is polled, which then answers ready: the run drops the output.
+    Row {
+        number: 32,
+        name: "drop_during_run",
+        counts: Counts(1, 0, 1, 1),
+        steps: "spawn ready 1 | run | drop_task; counted 1 0 0 0; outputs 0 | outputs 1",
+    },
+    // The first thread polls the Task while the future is polled: the run wakes the awaiter, and a second poll gets the output.
+    Row {
+        number: 33,
+        name: "poll_during_run",
+        counts: Counts(1, 0, 1, 0),
+        steps: "spawn ready 1 | run | poll 1 waits; woken 1 0 | woken 1 1; poll 1 gives 1; woken 1 1",
+    },
+    // The first poll of a Cancel cancels the task also where its awaiter cannot be cloned.
+    Row {
+        number: 34,
+        name: "cancel_refused",
+        counts: Counts(0, 0, 1, 0),
+        steps: "spawn ready 1; refuse_clone 1; cancel; poll 1 refused; runnable_shows 119; finished; run; \
+                poll 1 closed; woken 1 0",
+    },
+    // Three Runnables are dropped with the queue's contents, which closes their tasks and wakes their awaiters.
+    Row {
+        number: 35,
+        name: "clear_queue",
+        counts: Counts(0, 3, 3, 0),
+        steps: "spawn ready 1; schedule; poll 1 waits; woken 1 0; spawn ready 2; schedule; poll 2 waits; woken 2 0; \
+                spawn ready 3; schedule; poll 3 waits; woken 3 0; queued 3; clear; queued 0; next_task; woken 1 1; \
+                poll 1 closed; woken 1 1; next_task; woken 2 1; poll 2 closed; woken 2 1; next_task; woken 3 1; \
+                poll 3 closed; woken 3 1",
+    },
+    // The schedule value drops the Runnable of a wake, which closes the task: a further wake changes nothing.
+    Row {
+        number: 36,
+        name: "wake_into_drop",
+        counts: Counts(1, 1, 1, 1),
+        steps: "drop_each; spawn pending; waker; run; wake_by_ref; finished; wake; counted 1 1 1 0; detach",
+    },
+    // The poll drops the Task, and answers ready: the run drops the output, since nobody can ask for it.
+    Row {
+        number: 37,
+        name: "drop_in_poll",
+        counts: Counts(1, 0, 1, 1),
+        steps: "spawn drop_task 1; keep_task; run; none_kept; outputs 1",
+    },
+    // Four tasks of priority 2, 3, 2 and 1 are run in descending order.
+    Row {
+        number: 38,
+        name: "priority",
+        counts: Counts(4, 4, 4, 0),
+        steps: "",
+    },
+    // A task that is woken while it runs goes through the queue again, and comes before one of lower priority.
+    Row {
+        number: 39,
+        name: "priority_yield",
+        counts: Counts(3, 3, 2, 0),
+        steps: "",
+    },
+    // A Runnable that finds the queue full is dropped, which closes its task, though its priority is greater.
+    Row {
+        number: 40,
+        name: "priority_full",
+        counts: Counts(1, 2, 2, 0),
+        steps: "",
+    },
+];

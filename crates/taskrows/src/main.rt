@@ -4,17 +4,12 @@
 //! The page is README.md, beside the code.
 #![tactic(auto)]
 
-mod dropping;
-mod hands;
 mod local;
 mod priority;
-mod script;
-mod scripts;
-mod step;
 mod table;
 
+use rows_fixtures::counters::Counts;
 use rows_fixtures::report::{answer, refuse};
-use rows_fixtures::row::Row;
 use std::process::ExitCode;
 use std::{env, io};
 
@@ -31,7 +26,7 @@ fn main(rt: HostRuntime) -> io::Result<ExitCode> {
     };
     let args: Vec<String> = words.skip(1).collect(alloc)?;
     let mut out = io::writer(&rt);
-    let run = |row: Row| table::run(row, rt, alloc);
+    let run = |number: u8, counts: Counts| table::run(number, counts, rt, alloc);
     let status = answer(args.as_slice(), &run, &mut out, &mut err);
     Ok(ExitCode::from(status))
 }

@@ -9,8 +9,8 @@ use std::process::Abort;
 use std::sync::{Arc, Wait};
 
 /// Surroundings of a test's own.
-pub fn fixture<R: Wait + Abort + Drop + Copy>(rt: R, alloc: Global) -> Fixture<R> {
-    Fixture::new(rt, alloc).expect(&rt, "refused")
+pub fn fixture<R: Wait + Abort + Drop + Copy>(rt: R, alloc: Global) -> Fixture<R, Global> {
+    Fixture::new(rt, alloc, alloc).expect(&rt, "refused")
 }
 
 /// Counters at zero.

@@ -43,9 +43,9 @@ fn drops_and_detaches_ask_for_no_memory(rt: HostRuntime) {
     let counters = calls::counters(rt, rt.alloc());
     let heap = calls::heap(rt, rt.alloc(), tray::HEAP);
     let (right, seen) = leave_two(rt, rt.alloc(), &heap, &counters);
-    let detached = Counts::new(0, 0, 1, 1);
-    let ended = counters.counts() == Counts::new(0, 0, 2, 2) && heap.used() == 0;
-    assert!(rt; right && ended && seen == [Counts::new(0, 0, 1, 0), detached, detached]);
+    let detached = Counts(0, 0, 1, 1);
+    let ended = counters.counts() == Counts(0, 0, 2, 2) && heap.used() == 0;
+    assert!(rt; right && ended && seen == [Counts(0, 0, 1, 0), detached, detached]);
 }
 
 // Spawns two tasks and fills the heap. Drops the Task of the first and runs it; schedules the Runnable of the second three
@@ -80,9 +80,9 @@ fn cancels_and_schedules_ask_for_no_memory(rt: HostRuntime) {
     let counters = calls::counters(rt, rt.alloc());
     let heap = calls::heap(rt, rt.alloc(), tray::HEAP);
     let (seen, rescheduled) = cancel_and_schedule(rt, rt.alloc(), &heap, &counters);
-    let cancelled = Counts::new(0, 0, 0, 0);
-    let ended = Counts::new(0, 0, 1, 1);
-    let queued = Counts::new(0, 3, 1, 1);
+    let cancelled = Counts(0, 0, 0, 0);
+    let ended = Counts(0, 0, 1, 1);
+    let queued = Counts(0, 3, 1, 1);
     assert!(rt; !rescheduled && seen == [cancelled, ended, queued]);
 }
 
@@ -127,8 +127,8 @@ fn wakers_ask_for_no_memory(rt: HostRuntime) {
     let counters = calls::counters(rt, rt.alloc());
     let heap = calls::heap(rt, rt.alloc(), tray::HEAP);
     let (right, seen) = wake_in_full_heap(rt, rt.alloc(), &heap, &counters);
-    let ended = counters.counts() == Counts::new(3, 3, 1, 1) && heap.used() == 0;
-    assert!(rt; right && ended && seen == [Counts::new(2, 2, 0, 0), Counts::new(3, 3, 0, 0)]);
+    let ended = counters.counts() == Counts(3, 3, 1, 1) && heap.used() == 0;
+    assert!(rt; right && ended && seen == [Counts(2, 2, 0, 0), Counts(3, 3, 0, 0)]);
 }
 
 // Spawns three tasks and fills the heap. Polls the Task of the first, a FallibleTask of the second and a Cancel of the third, each
@@ -166,7 +166,7 @@ fn polls_ask_for_no_memory(rt: HostRuntime) {
     let heap = calls::heap(rt, rt.alloc(), tray::HEAP);
     let flag = calls::flag(rt, rt.alloc(), 1);
     let right = poll_in_full_heap(rt, rt.alloc(), &heap, &counters, &flag);
-    let woken = flag.clones() == 3 && flag.wakes() == 3 && flag.drops() == 0;
-    let ended = counters.counts() == Counts::new(1, 0, 3, 3) && heap.used() == 0;
+    let woken = flag.ends() == (3, 3, 0);
+    let ended = counters.counts() == Counts(1, 0, 3, 3) && heap.used() == 0;
     assert!(rt; right && woken && ended);
 }

@@ -19,13 +19,16 @@ type Heap<R> = PriorityHeap<R, RowFuture, PriorityScheduler, Flag>;
 const TOO_MUCH: usize = usize::MAX;
 
 // An empty queue with that room. Stops where there is no memory.
-fn queue_of<R: Wait + Abort + Drop + Copy>(fixture: &Fixture<R>, room: usize) -> PriorityQueue<R> {
+fn queue_of<R: Wait + Abort + Drop + Copy>(
+    fixture: &Fixture<R, Global>,
+    room: usize,
+) -> PriorityQueue<R> {
     fixture.priorities(room).expect(&fixture.rt, "refused")
 }
 
 // Spawns a task of that priority. Stops where there is no memory.
 fn spawn<'x, R: Wait + Abort + Drop + Copy>(
-    fixture: &Fixture<R>,
+    fixture: &Fixture<R, Global>,
     queue: &'x PriorityQueue<R>,
     priority: u64,
 ) -> (PriorityRunnable<'x, R>, PriorityTask<'x, R>) {
@@ -56,7 +59,7 @@ fn new_is_refused_for_memory(rt: HostRuntime) {
 }
 
 // Schedules the Runnables of two tasks and detaches their Tasks, and drops the queue: what was counted before its drop.
-fn leave_in_queue<R: Wait + Abort + Drop + Copy>(fixture: &Fixture<R>) -> Counts {
+fn leave_in_queue<R: Wait + Abort + Drop + Copy>(fixture: &Fixture<R, Global>) -> Counts {
     let queue = queue_of(fixture, 2);
     let (first_runnable, first) = spawn(fixture, &queue, 1);
     let (second_runnable, second) = spawn(fixture, &queue, 2);
@@ -71,5 +74,5 @@ fn leave_in_queue<R: Wait + Abort + Drop + Copy>(fixture: &Fixture<R>) -> Counts
 fn what_is_left_in_the_queue_is_cancelled_with_it(rt: HostRuntime) {
     let fixture = calls::fixture(rt, rt.alloc());
     let queued = leave_in_queue(&fixture);
-    assert!(rt; [queued, fixture.counts()] == [Counts::new(0, 2, 0, 0), Counts::new(0, 2, 2, 2)]);
+    assert!(rt; [queued, fixture.counts()] == [Counts(0, 2, 0, 0), Counts(0, 2, 2, 2)]);
 }

@@ -171,9 +171,9 @@ fn spawn_in<R: Wait + Abort + Drop + Copy>(rt: R, alloc: Global, blocks: u16) ->
         }
         Err(refused) => {
             let requests = counting.allocations();
-            let is_freed = heap.used() == 0 && counters.counts() == Counts::new(0, 0, 0, 0);
+            let is_freed = heap.used() == 0 && counters.counts() == Counts(0, 0, 0, 0);
             let is_used = use_refused(rt, alloc, refused);
-            let is_over = counters.counts() == Counts::new(1, 0, 1, 1);
+            let is_over = counters.counts() == Counts(1, 0, 1, 1);
             let right = is_freed && is_used && is_over && counters.output_drops.get() == 1;
             Err(requests == 1 && right)
         }
@@ -201,10 +201,10 @@ fn build_in<R: Wait + Abort + Drop + Copy>(rt: R, alloc: Global, blocks: u16) ->
         }
         Err(refused) => {
             let requests = counting.allocations();
-            let is_freed = heap.used() == 0 && counters.counts() == Counts::new(0, 0, 0, 0);
+            let is_freed = heap.used() == 0 && counters.counts() == Counts(0, 0, 0, 0);
             let is_uncalled = calls.get() == 0;
             let is_used = use_builder(rt, alloc, refused);
-            let is_over = calls.get() == 1 && counters.counts() == Counts::new(0, 0, 1, 1);
+            let is_over = calls.get() == 1 && counters.counts() == Counts(0, 0, 1, 1);
             Err(requests == 1 && is_freed && is_uncalled && is_used && is_over)
         }
     }
@@ -321,6 +321,6 @@ fn a_refused_waker_keeps_no_memory(rt: HostRuntime) {
     let counters = calls::counters(rt, rt.alloc());
     let heap = calls::heap(rt, rt.alloc(), HEAP);
     let (right, polled) = ask_at_limit(rt, &heap, &counters);
-    let ended = heap.used() == 0 && counters.counts() == Counts::new(1, 1, 1, 1);
-    assert!(rt; right && ended && polled == Counts::new(1, 0, 0, 0));
+    let ended = heap.used() == 0 && counters.counts() == Counts(1, 1, 1, 1);
+    assert!(rt; right && ended && polled == Counts(1, 0, 0, 0));
 }

@@ -5,7 +5,6 @@ use rows_fixtures::counters::Counts;
 use rows_fixtures::limited::Limited;
 use rows_fixtures::outcome::{Missing, Outcome};
 use rows_fixtures::report::answer;
-use rows_fixtures::row::Row;
 use std::alloc::{AllocError, Global};
 use std::io;
 
@@ -15,12 +14,12 @@ fn status_of<W: io::Write, E: io::Write>(
     out: &mut W,
     err: &mut E,
 ) -> Result<u8, AllocError> {
-    let run = |row: Row| -> Result<Outcome, Missing> {
-        let counts = Counts::new(1, 2, 3, 4);
-        match row {
-            Row::WakeDuringRun => Ok(Outcome::given_up(counts)),
-            Row::CancelDuringRun => Err(Missing::Memory),
-            Row::WakeAndCancel => Err(Missing::Thread),
+    let run = |number: u8, _counts: Counts| -> Result<Outcome, Missing> {
+        let counts = Counts(1, 2, 3, 4);
+        match number {
+            16 => Ok(Outcome::of(counts, false, counts)),
+            27 => Err(Missing::Memory),
+            29 => Err(Missing::Thread),
             _ => Ok(Outcome::of(counts, true, counts)),
         }
     };
@@ -85,8 +84,8 @@ fn is_answered(
     end: &str,
     told: &str,
 ) -> Result<bool, AllocError> {
-    let run = |_row: Row| -> Result<Outcome, Missing> {
-        let counts = Counts::new(1, 2, 3, 4);
+    let run = |_number: u8, _counts: Counts| -> Result<Outcome, Missing> {
+        let counts = Counts(1, 2, 3, 4);
         Ok(Outcome::of(counts, true, counts))
     };
     let mut words = Vec::new(alloc);
