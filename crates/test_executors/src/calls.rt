@@ -28,6 +28,25 @@ pub fn heap<R: Abort + Drop + Copy>(rt: R, alloc: Global, size: usize) -> LocalH
     LocalHeap::new(alloc, size).expect(&rt, "refused")
 }
 
+/// Room for some tasks, and more.
+pub const HEAP: usize = 4096;
+
+/// Takes what is left of a heap: whatever is asked of it afterwards is refused.
+pub fn fill<R: Abort + Drop + Copy>(
+    rt: R,
+    alloc: Global,
+    heap: &LocalHeap,
+) -> Vec<Vec<u8, &LocalHeap>> {
+    let mut filling = Vec::new(alloc);
+    for _ in 0..HEAP {
+        let Ok(block) = Vec::with_capacity(heap, 1) else {
+            return filling;
+        };
+        filling.push(block).expect(&rt, "refused");
+    }
+    panic!(rt; "the heap is larger than it was made")
+}
+
 /// An awaiter of that number.
 pub fn flag<R: Abort + Drop + Copy>(rt: R, alloc: Global, number: u64) -> Flag {
     Flag::new(alloc, number).expect(&rt, "refused")

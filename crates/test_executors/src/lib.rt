@@ -21,5 +21,3 @@ mod shared_tests;
 mod slot_tests;
 #[cfg(test)]
 mod storm_tests;
-#[cfg(test)]
-mod tray;
