@@ -22,11 +22,11 @@ grip_if false p x = room_at grip_row p
 abbrev pub owned : hand_row.Denot → Fml
 owned x = fex Val (λ v. hand_row.own_val x (v ∷ []))
 
--- .. where they are the address of its block
+-- what a handle owns whose bits are the address of its block
 abbrev pub owned_at : Ptr → hand_row.Denot → Fml
 owned_at p x = fsep (fex (p ≡ place x.share.maybe.id) (λ _. ftrue)) (owned x)
 
--- .. where there is one
+-- the same where there is such a handle
 abbrev pub owned_if : Option hand_row.Denot → Fml
 owned_if None = ftrue
 owned_if (Some x) = owned x

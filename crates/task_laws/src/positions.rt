@@ -93,9 +93,9 @@ pub enum Position {
     Pending,
     /// A run whose poll answered Ready.
     Ready,
-    /// .. which has dropped the future,
+    /// A run whose poll answered Ready, and which has dropped the future.
     ReadyFutureDropped,
-    /// .. and has stored the output.
+    /// A run whose poll answered Ready, and which has stored the output.
     OutputStored,
     /// A run whose poll answered Pending, and which has dropped the future of a closed task.
     PendingFutureDropped,

@@ -129,7 +129,7 @@ fn has_future(position: Position) -> bool
     }
 }
 
-// .. the output.
+// Whether a party there may touch the output.
 fn has_output(position: Position) -> bool
     ensures { result ≡ owners.owns_output position }
 {
@@ -144,7 +144,7 @@ fn has_output(position: Position) -> bool
     }
 }
 
-// .. the clone of an awaiter.
+// Whether a party there has the clone of an awaiter.
 fn has_awaiter(position: Position) -> bool
     ensures { result ≡ owners.owns_awaiter position }
 {
