@@ -88,7 +88,7 @@ fn seen(task: &Task<'_>) -> Seen {
 // A call, what it answers, what it leaves to do, and what can be seen then.
 type Step = (Call, Said, Left, Seen);
 
-// Makes the call of a step: whether the rest is so.
+// Makes the call of a step, and answers whether the rest is so.
 fn does<'c>(rt: &impl Abort, task: &mut Task<'c>, pair: &'c Pair, step: Step) -> bool {
     let (call, said, wanted, looks) = step;
     let (answer, settled) = answer_of(rt, task, call, pair);
