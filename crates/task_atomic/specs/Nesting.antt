@@ -32,7 +32,7 @@ abbrev pub is_to_compare : Act → Option State → Bool
 is_to_compare EndNotify (Some w) = w.awaiter
 is_to_compare act found = false
 
--- foreign code runs in a call that has done so much: after an act of that kind, and before a clone and a question
+-- foreign code runs in a call at this point: after an act of that kind, and before a clone and a question
 abbrev pub runs_after : Deed → List Deed → Bool
 runs_after first [] = is_foreign first.act || is_to_clone first.act first.found
 runs_after first (newest ∷ older) = is_foreign newest.act || (begins_poll first.act && is_to_compare newest.act newest.found)

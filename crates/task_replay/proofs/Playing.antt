@@ -1,4 +1,4 @@
--- What a player rests on: a run with one step more, and bounds that follow from a run of so many steps.
+-- What a player rests on: a run with one step more, and bounds that follow from a run of that many steps.
 use Rattle.std.proofs.Common.{◌≡◌, ℕ, ◌+◌, ◌≤◌, ◌∙◌, List, [], ◌∷◌, ◌++◌, Option, Some, refl, sym, ap, subst, arith}
 use Rattle.std.proofs.lemmas.List.{length-append}
 use Rattle.std.proofs.Math.Bridge.{le_prop}

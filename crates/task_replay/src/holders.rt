@@ -57,7 +57,7 @@ impl Holders {
         }
     }
 
-    /// Is told of a step, by which only its party has moved. There were so many parties before it.
+    /// Is told of a step, by which only its party has moved. There were `before` parties before it.
     pub fn note<A: Allocator>(&mut self, machine: &Machine<A>, party: u64, before: usize) {
         self.note_party(machine, party);
         for added in before as u64..machine.parties() as u64 {

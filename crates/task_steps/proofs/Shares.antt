@@ -22,7 +22,7 @@ use Rattle.task_steps.proofs.Advance.{Finds, Steps}
 use Rattle.task_steps.proofs.Allowed.{Owes, OwesChange, makes_change, finds_trying}
 use Rattle.task_core.specs.Word.{HasRoom}
 
--- so many shares belong to a word
+-- how many shares belong to a word
 abbrev pub shares_of : State → ℕ
 shares_of w = at_least_one (handles w)
 

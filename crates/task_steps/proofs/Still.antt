@@ -25,7 +25,7 @@ pub made_while_still : {F T A Row : Type 0} (values : Values F T) (a : Attempt R
 made_while_still values a k log w t slots new m m' tried still exchange = let s = sees_it_still k log w t tried still in
     (s.0, subst (λ v. Makes values (acts_on a v) v m m') (state_of_number_of w) (exchange.0 (sym s.1)))
 
--- one that has missed so often has met as many writes
+-- one that has missed this often has met as many writes
 pub met_writes : (n k : ℕ) (log : List Entry) (w : State) (t : Option Tries) → Tried k log w t → n < looks_of t → n ≤ written_since k log
 met_writes n k log w None tried missed = absurd (omega arith)
 met_writes n k log w (Some t) tried missed = omega arith

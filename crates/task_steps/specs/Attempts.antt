@@ -98,11 +98,11 @@ module _ {F T A : Type 0} where
   abbrev pub TriesOn : {Row : Type 0} → ℕ → Attempt Row → State → State → Me (TaskPlace F T A) View → Me (TaskPlace F T A) View → Type 0
   TriesOn limit a v w me me' = HasFound w me me' × ((v ≢ w) ⊎ IsUndecided limit a w)
 
-  -- since then the party has seen at least so many words more, each another than the one before
+  -- since then the party has seen at least this many words more, each another than the one before
   abbrev pub HasLooked : ℕ → Me (TaskPlace F T A) View → Me (TaskPlace F T A) View → Type 0
   HasLooked n me me' = looks_of (head_of me.0.members).tries + n ≤ looks_of (head_of me'.0.members).tries
 
-  -- it has missed at least so often
+  -- it has missed at least this often
   abbrev pub HasMissed : ℕ → Me (TaskPlace F T A) View → Type 0
   HasMissed n me = n < looks_of (head_of me.0.members).tries
 

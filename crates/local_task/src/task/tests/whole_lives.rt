@@ -95,7 +95,7 @@ fn does<'c>(rt: &impl Abort, task: &mut Task<'c>, pair: &'c Pair, step: Step) ->
     answer == said && left_of(settled) == wanted && seen(task) == looks
 }
 
-// Stops where a new task does not take these steps, one after another, or has not so many wakers then.
+// Stops where a new task does not take these steps, one after another, or has another number of wakers then.
 fn lives<'c>(rt: &impl Abort, pair: &'c Pair, steps: &[Step], wakers: u64) {
     let mut task = LocalTask::new("metadata", FUTURE);
     holds(rt, seen(&task) == [true, false, false, false, true]);
