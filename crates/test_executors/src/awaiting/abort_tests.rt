@@ -255,7 +255,7 @@ fn abort_all<R: Wait + Drop + Copy>(rt: R, handles: &Handles<R>, ended: &AtomicU
     for _ in rt.forever() {
         let handle = handles.lock(&rt).pop_front();
         match handle {
-            Some(handle) => handle.abort(),
+            Some(handle) => drop(handle.abort()),
             None if ended.load(Ordering::SeqCst) > 0 => return,
             None => thread::yield_now(),
         }

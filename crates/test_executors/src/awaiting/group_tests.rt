@@ -14,7 +14,7 @@ use std::process::Abort;
 use std::sync::Wait;
 use std::time::{Clock, Duration, Instant};
 
-const SCRIPTS: [Script; 9] = [
+const SCRIPTS: [Script; 10] = [
     Script {
         name: "members come out in the order in which they end",
         room: 3,
@@ -59,6 +59,20 @@ const SCRIPTS: [Script; 9] = [
             Push(GiveWay(20), true),
             Push(GiveWay(20), true),
             Push(Stay, false),
+            DetachAll,
+            Run,
+            Answered(2),
+        ],
+    },
+    // The number of the one that is left, 1, is not below how many are left.
+    Script {
+        name: "a detach lets a member of a high number go on",
+        room: 2,
+        steps: &[
+            Push(Answer(23), true),
+            Run,
+            Push(GiveWay(24), true),
+            Next(Some((0, Ok(23)))),
             DetachAll,
             Run,
             Answered(2),

@@ -102,9 +102,9 @@ impl Listener for Meets {
     }
 }
 
-// Takes a number while a listener is told.
-fn take_meanwhile<R: Wait + Drop + Copy>(
-    mailbox: &Mailbox<R, Meets>,
+// Takes a number while a listener is told or dropped.
+fn take_meanwhile<R: Wait + Drop + Copy, L: Listener>(
+    mailbox: &Mailbox<R, L>,
     rendezvous: &Rendezvous,
 ) -> Option<usize> {
     rendezvous.await_poll();
@@ -136,5 +136,50 @@ fn post_and_take<R: Wait + Abort + Threads + Drop + Copy + Send + Sync>(
 #[test]
 fn a_number_can_be_taken_while_a_listener_is_told_of_it(rt: HostRuntime) {
     let seen = post_and_take(rt, rt.alloc());
+    assert!(rt; seen == (Some(1), true));
+}
+
+// A listener that, where it has a rendezvous, meets a second thread as it is dropped.
+struct MeetsAtEnd {
+    rendezvous: Option<Arc<Rendezvous>>,
+}
+
+impl Drop for MeetsAtEnd {
+    fn drop(self) {
+        let MeetsAtEnd { rendezvous } = self;
+        if let Some(rendezvous) = rendezvous {
+            rendezvous.meet();
+        }
+    }
+}
+
+impl Listener for MeetsAtEnd {
+    fn tell(self) {}
+}
+
+// What is taken while a listener is dropped, in whose place another one comes, and whether it was dropped until then.
+fn replace_and_take<R: Wait + Abort + Threads + Drop + Copy + Send + Sync>(
+    rt: R,
+    alloc: Global,
+) -> (Option<usize>, bool) {
+    let rendezvous = Arc::new(alloc, Rendezvous::new()).expect(&rt, "refused");
+    let mailbox = Mailbox::new(rt, alloc, 2).expect(&rt, "refused");
+    mailbox.post(1);
+    rendezvous.arm();
+    let listener = MeetsAtEnd {
+        rendezvous: Some(Arc::try_clone(&rendezvous).expect(&rt, "refused")),
+    };
+    mailbox.listen(listener);
+    let (_, taken) = thread::join(
+        &rt,
+        || mailbox.listen(MeetsAtEnd { rendezvous: None }),
+        || take_meanwhile(&mailbox, &rendezvous),
+    );
+    (taken, rendezvous.met())
+}
+
+#[test]
+fn a_number_can_be_taken_while_a_listener_that_was_replaced_is_dropped(rt: HostRuntime) {
+    let seen = replace_and_take(rt, rt.alloc());
     assert!(rt; seen == (Some(1), true));
 }

@@ -1,12 +1,13 @@
 //! The mailbox: order, numbers that wait already, the room, and two threads that sleep at it.
 use async_task::Wake;
-use executor_parts::{Awaiter, Mailbox};
+use executor_parts::{Awaiter, Mailbox, left_until};
 use std::alloc::{AllocError, Global};
+use std::io;
 use std::process::Abort;
 use std::sync::atomic::{AtomicU64, Ordering};
 use std::sync::{Arc, Wait};
 use std::thread::{self, Threads};
-use std::time::{Clock, Duration};
+use std::time::{Clock, Duration, Instant};
 
 // How often two threads wait at a mailbox. In some of these rounds both of them sleep as the numbers come.
 const ROUNDS: usize = 20;
@@ -90,4 +91,32 @@ fn two_threads_that_sleep_at_a_mailbox_are_both_woken(rt: HostRuntime) {
         have_both = have_both && matches!(numbers, (0, 1) | (1, 0));
     }
     assert!(rt; have_both);
+}
+
+// A clock that has no answer.
+struct NoClock;
+
+impl Clock for NoClock {
+    fn monotonic(&self) -> io::Result<Duration> {
+        Err(io::Error::other("no clock"))
+    }
+
+    fn since_1970(&self) -> io::Result<Duration> {
+        Err(io::Error::other("no clock"))
+    }
+
+    fn sleep(&self, _duration: Duration) {}
+}
+
+// Whether no time is left until an hour from now, by a clock that has no answer.
+fn none_is_left<R: Clock + Abort>(rt: &R) -> bool {
+    let now = Instant::now(rt).expect(rt, "refused");
+    let deadline = now.checked_add(Duration::from_secs(3600));
+    left_until(&NoClock, deadline.expect(rt, "refused")).is_zero()
+}
+
+// So a wait by such a clock does not sleep.
+#[test]
+fn a_clock_without_an_answer_leaves_no_time(rt: HostRuntime) {
+    assert!(rt; none_is_left(&rt));
 }

@@ -124,3 +124,54 @@ fn a_member_that_was_refused_its_awaiter_is_polled_again(rt: HostRuntime) {
     ];
     assert!(rt; seen == (2, found));
 }
+
+// What a wait for one of two members answers, while the second is refused its awaiter and nothing runs.
+fn wait_while_refused<R: Wait + Abort + Drop + Copy>(rt: R, alloc: Global) -> Found {
+    let mut group: OnlyGroup<R> = TaskGroup::new(rt, alloc, 2).expect(&rt, "refused");
+    let first = push(rt, alloc, &mut group, 5);
+    let second = push(rt, alloc, &mut group, 6);
+    let found = match group.next() {
+        Ok(Some(ended)) => Ok(Some((ended.number, ended.answer.unwrap_or(0)))),
+        Ok(None) => Ok(None),
+        Err(refused) => Err(refused),
+    };
+    drop(first);
+    drop(second);
+    found
+}
+
+// It does not go on to the next number, of which there may be none.
+#[test]
+fn a_wait_says_that_a_member_was_refused_its_awaiter(rt: HostRuntime) {
+    assert!(rt; wait_while_refused(rt, rt.alloc()) == Err(AwaiterRefused));
+}
+
+// Cancels two members that are both refused their awaiters, and drops the Runnable of the first: what the cancel answers, and what is found then, and
+// once the second was run.
+fn cancel_while_refused<R: Wait + Abort + Drop + Copy>(
+    rt: R,
+    alloc: Global,
+) -> (Result<(), AwaiterRefused>, [Found; 3]) {
+    let mut group: OnlyGroup<R> = TaskGroup::new(rt, alloc, 2).expect(&rt, "refused");
+    let first = push(rt, alloc, &mut group, 5);
+    let second = push(rt, alloc, &mut group, 6);
+    let cancelled = group.cancel_all();
+    drop(first);
+    let refused = look(&mut group);
+    run(second);
+    let first_ended = look(&mut group);
+    let second_ended = look(&mut group);
+    (cancelled, [refused, first_ended, second_ended])
+}
+
+// The second one is cancelled by its next poll, though the first one was refused before it, and so it has no output.
+#[test]
+fn a_refusal_keeps_no_other_member_from_its_cancel(rt: HostRuntime) {
+    let (cancelled, found) = cancel_while_refused(rt, rt.alloc());
+    let expected = [
+        Err(AwaiterRefused),
+        Ok(Some((0, 0))),
+        Ok(Some((1, 0))),
+    ];
+    assert!(rt; cancelled == Err(AwaiterRefused) && found == expected);
+}
