@@ -5,6 +5,7 @@ ghost use Rattle.std.specs.Arc.{arc_value};
 use crate::id::MemberId;
 use crate::listener::Listener;
 use crate::nobody::Nobody;
+use crate::requests::AbortAsked;
 use crate::shared::Shared;
 use std::sync::{Arc, Wait};
 
@@ -40,9 +41,11 @@ impl<R: Wait + Drop + Copy, L: Listener> AbortHandle<R, L> {
     /// member comes out once its future is gone: closed, or with the output of a task that was completed before. Further requests are nothing, and so is one
     /// for a member that has come out, or that was let go by `abort_all`, `detach_all` or the drop of the group: it never reaches a later member of the number.
     ///
-    /// No clause says so: the request is under a lock, and the group looks for it later.
-    pub fn abort(&self) {
-        self.shared.ask(self.id);
+    /// The answer says that the member was asked for, before its number was posted. No clause says what the group does: it looks later, under a lock.
+    pub fn abort(&self) -> AbortAsked
+        ensures { result.id ≡ self.now.id }
+    {
+        self.shared.ask(self.id)
     }
 
     /// One more handle of the member. It asks for no memory. `None` says that there are as many handles as can be counted.

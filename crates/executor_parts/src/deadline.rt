@@ -10,3 +10,16 @@ pub fn left_until<R: Clock>(rt: &R, deadline: Instant) -> Duration {
         Err(_) => Duration::from_secs(0),
     }
 }
+
+/// A deadline was over, by the clock of the runtime. Only a look at that clock makes one.
+#[derive(Drop)]
+pub(crate) struct Over(());
+
+// How long it is until the deadline. An error says that it is over, or that the clock has no answer. As of `left_until`, no clause says when.
+pub(crate) fn time_until<R: Clock>(rt: &R, deadline: Instant) -> Result<Duration, Over> {
+    let left = left_until(rt, deadline);
+    if left.is_zero() {
+        return Err(Over(()));
+    }
+    Ok(left)
+}

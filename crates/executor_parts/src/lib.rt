@@ -38,3 +38,4 @@ pub use mailbox::{Awaiter, Mailbox};
 pub use nobody::Nobody;
 pub use numbers::Numbers;
 pub use posts::Posts;
+pub use requests::AbortAsked;

@@ -2,7 +2,7 @@
 ghost use Rattle.std.specs.Prelude.{⊤, ◌≡◌, false, IfOk, IfSome};
 ghost use Rattle.std.specs.Arc.{arc_value};
 
-use crate::deadline::left_until;
+use crate::deadline::{Over, time_until};
 use crate::listener::Listener;
 use crate::nobody::Nobody;
 use crate::numbers::Numbers;
@@ -98,15 +98,20 @@ impl<R: Wait + Drop + Copy, L: Listener> Mailbox<R, L> {
 impl<R: Wait + Clock + Drop + Copy, L: Listener> Mailbox<R, L> {
     /// As `wait`, but `None` at the deadline, if no number waits then. Where the clock of the runtime has no answer, it does not sleep. No clause says when that is: only the runtime knows its clock.
     pub fn wait_until(&self, deadline: Instant) -> Option<usize> {
+        self.await_number(deadline).ok()
+    }
+
+    // As `wait`, but no longer than the deadline.
+    fn await_number(&self, deadline: Instant) -> Result<usize, Over> {
         let mut contents = self.contents.lock(&self.rt);
         for _ in self.rt.forever() {
             if let Some(number) = contents.numbers.take() {
-                return Some(number);
+                return Ok(number);
             }
-            let left = left_until(&self.rt, deadline);
-            if left.is_zero() {
-                return None;
-            }
+            let left = match time_until(&self.rt, deadline) {
+                Ok(left) => left,
+                Err(over) => return Err(over),
+            };
             contents = self.posted.wait_timeout(&self.rt, contents, left).0;
         }
         unreachable!()

@@ -3,7 +3,11 @@ ghost use Rattle.std.specs.Prelude.{◌≡◌, ◌≢◌, ◌<◌, ℕ, None, If
 ghost use Rattle.executor_parts.specs.Requested.{later, requested, room_of};
 
 use crate::id::MemberId;
+use crate::listener::Listener;
+use crate::mailbox::Mailbox;
 use std::alloc::{AllocError, Global};
+use std::sync::Wait;
+use std::sync::atomic::{AtomicBool, Ordering};
 
 /// For each number the last member of it whose abort was asked for, by its generation. All its memory is taken at once.
 ///
@@ -11,6 +15,49 @@ use std::alloc::{AllocError, Global};
 #[derive(Debug, Drop)]
 pub(crate) struct Requests {
     generations: Vec<Option<u64>>,
+}
+
+/// A member's abort was asked for, and after that its number was posted. Only a request makes one.
+#[derive(Drop)]
+pub struct AbortAsked {
+    id: MemberId,
+}
+
+/// A request is there that nobody looks for yet. It has no `Drop`: it ends in `note`.
+#[must_use]
+pub(crate) struct Asked {
+    id: MemberId,
+}
+
+/// A request that who has the number finds. It has no `Drop`: it ends in `post`.
+#[must_use]
+pub(crate) struct Noted {
+    id: MemberId,
+}
+
+impl Asked {
+    // Has who takes a number look for requests.
+    pub(crate) fn note(self, was_asked: &AtomicBool) -> Noted
+        ensures { result.id ≡ self.id }
+    {
+        let Asked { id } = self;
+        was_asked.store(true, Ordering::SeqCst);
+        Noted { id }
+    }
+}
+
+impl Noted {
+    // Posts the number of the member.
+    pub(crate) fn post<R: Wait + Drop + Copy, L: Listener>(
+        self,
+        mailbox: &Mailbox<R, L>,
+    ) -> AbortAsked
+        ensures { result.id ≡ self.id }
+    {
+        let Noted { id } = self;
+        mailbox.post(id.number);
+        AbortAsked { id }
+    }
 }
 
 impl Requests {
@@ -25,19 +72,21 @@ impl Requests {
 
     /// Asks for the abort of a member. Where that of a later member of its number was asked for already, nothing changes: so who is late never takes a request
     /// of another away. Nor does anything change for a number that is not below the room.
-    pub(crate) fn ask(&mut self, id: MemberId)
+    pub(crate) fn ask(&mut self, id: MemberId) -> Asked
+        ensures asked { result.id ≡ id }
         ensures latest { id.number < room_of self.old → requested self.new id.number ≡ Some (later (requested self.old id.number) id.generation) }
         ensures others { (other : ℕ) → other ≢ id.number → requested self.new other ≡ requested self.old other }
         ensures room { room_of self.new ≡ room_of self.old }
     {
         if id.number >= self.generations.len() {
-            return;
+            return Asked { id };
         }
         let generation = match self.generations[id.number] {
             Some(before) => before.max(id.generation),
             None => id.generation,
         };
         self.generations[id.number] = Some(generation);
+        Asked { id }
     }
 
     /// The generation of the last member of this number whose abort was asked for.

@@ -1,8 +1,10 @@
 //! What a group shares with the handles that abort its members.
+ghost use Rattle.std.specs.Prelude.{◌≡◌};
+
 use crate::id::MemberId;
 use crate::listener::Listener;
 use crate::mailbox::Mailbox;
-use crate::requests::Requests;
+use crate::requests::{AbortAsked, Requests};
 use std::alloc::{AllocError, Global};
 use std::sync::atomic::{AtomicBool, Ordering};
 use std::sync::{Arc, Mutex, Wait};
@@ -32,10 +34,11 @@ impl<R: Wait + Drop + Copy, L: Listener> Shared<R, L> {
     }
 
     /// Asks for the abort of a member, and posts its number: the request is there before whoever takes the number looks for it.
-    pub(crate) fn ask(&self, id: MemberId) {
-        self.requests.lock(&self.rt).ask(id);
-        self.was_asked.store(true, Ordering::SeqCst);
-        self.mailbox.post(id.number);
+    pub(crate) fn ask(&self, id: MemberId) -> AbortAsked
+        ensures { result.id ≡ id }
+    {
+        let asked = self.requests.lock(&self.rt).ask(id);
+        asked.note(&self.was_asked).post(&self.mailbox)
     }
 
     /// The generation of the last member of this number whose abort was asked for.

@@ -17,6 +17,37 @@ struct Slot {
     waker: Mutex<Option<Waker>>,
 }
 
+/// An awaiter that a poll has only as it leaves the kit's waker there, so that no wake of its comes before that.
+#[derive(Drop)]
+pub(crate) struct Unregistered<B: Allocator> {
+    awaiter: KitAwaiter<B>,
+}
+
+impl<B: Allocator> Unregistered<B> {
+    // An awaiter of its own, as `KitAwaiter::new` makes it.
+    pub(crate) fn new(alloc: B) -> Result<Unregistered<B>, AllocError> {
+        let awaiter = KitAwaiter::new(alloc)?;
+        Ok(Unregistered { awaiter })
+    }
+
+    // Leaves the waker of the task that polls, and gives the awaiter. `None` where the lock was not had, which no run sees.
+    pub(crate) fn register<T: Drop>(
+        &self,
+        cx: &mut Context<'_>,
+    ) -> Option<(Poll<T>, &KitAwaiter<B>)>
+        ensures pending { IfSome result (λ registered. registered.0 ≡ Poll.Pending) }
+        ensures awaiter { IfSome result (λ registered. registered.1.now ≡ self.now.awaiter) }
+        ensures armed { IfSome result (λ _. IsArmed cx.new) }
+        ensures heard { IfSome result (λ _. Hears cx.new (arc_value self.now.awaiter.slot).source.id) }
+        ensures kept { Keeps cx.old cx.new }
+    {
+        match self.awaiter.register(cx) {
+            Some(pending) => Some((pending, &self.awaiter)),
+            None => None,
+        }
+    }
+}
+
 /// An awaiter whose wake takes the kit's waker that was registered last, and wakes it.
 #[derive(Drop)]
 pub struct KitAwaiter<B: Allocator = Global> {
@@ -36,7 +67,7 @@ impl<B: Allocator> KitAwaiter<B> {
     }
 
     // Leaves the waker of the task that polls. `None` where the lock was not had, which no run sees.
-    pub(crate) fn register<T: Drop>(&self, cx: &mut Context<'_>) -> Option<Poll<T>>
+    fn register<T: Drop>(&self, cx: &mut Context<'_>) -> Option<Poll<T>>
         ensures pending { IfSome result (λ poll. poll ≡ Poll.Pending) }
         ensures armed { IfSome result (λ _. IsArmed cx.new) }
         ensures heard { IfSome result (λ _. Hears cx.new (arc_value self.now.slot).source.id) }

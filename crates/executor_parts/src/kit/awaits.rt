@@ -7,7 +7,7 @@ ghost use Rattle.task_steps.specs.Steps.{saw_ended};
 ghost use Rattle.task_cell.specs.Calls.{deeds};
 ghost use Rattle.executor_parts.specs.KitAnswers.{PollsTask};
 
-use crate::kit::awaiter::KitAwaiter;
+use crate::kit::awaiter::{KitAwaiter, Unregistered};
 use async_task::{Runnable, Schedule, Task, TaskPoll, Yields};
 use futures::Future;
 use futures::task::{Context, Poll};
@@ -70,7 +70,7 @@ where
     Q: Schedule<Runnable<R, F, Q, M, KitAwaiter<B>, X, B>>,
 {
     pub(crate) task: Task<R, F, Q, M, KitAwaiter<B>, X, B>,
-    awaiter: KitAwaiter<B>,
+    awaiter: Unregistered<B>,
 }
 
 impl<R: Wait + Drop + Copy, F: Yields, Q: Drop, M: Drop, X: Copy, B: Allocator + Copy> Awaits<
@@ -94,7 +94,7 @@ where
         ensures task { IfOk result (λ awaits. awaits.task ≡ task) }
         ensures returned { IfErr result (λ refused. refused.task ≡ task) }
     {
-        match KitAwaiter::new(alloc) {
+        match Unregistered::new(alloc) {
             Ok(awaiter) => Ok(Awaits { task, awaiter }),
             Err(_) => Err(AwaitsRefused { task }),
         }
@@ -116,26 +116,26 @@ where
 {
     type Output = Result<F::Output, AwaitError>;
 
-    ghost needs = { λ awaits source. source ≡ (arc_value awaits.awaiter.slot).source.id };
+    ghost needs = { λ awaits source. source ≡ (arc_value awaits.awaiter.awaiter.slot).source.id };
 
     ghost gives = { λ _ answer. IfOk answer (λ output. ∥ F.Yields.meets output ∥₁) };
 
     // The kit's waker is registered before the Task is polled, so an end in between wakes it.
     fn poll(&mut self, cx: &mut Context<'_>) -> Poll<Result<F::Output, AwaitError>>
         ensures value { IfReady result (λ answer. IfOk answer (λ output. ∥ F.Yields.meets output ∥₁)) }
-        ensures registered { OnPending result (Covers cx.new (λ source. source ≡ (arc_value self.new.awaiter.slot).source.id)) }
+        ensures registered { OnPending result (Covers cx.new (λ source. source ≡ (arc_value self.new.awaiter.awaiter.slot).source.id)) }
         ensures kept { Keeps cx.old cx.new }
-        ensures answer { ((result ≡ Poll.Ready (Err AwaitError.Refused)) × (self.new.task ≡ self.old.task)) ⊎ PollsTask self.old.awaiter self.old.task.inner.party self.new.task.inner.party result }
+        ensures answer { ((result ≡ Poll.Ready (Err AwaitError.Refused)) × (self.new.task ≡ self.old.task)) ⊎ PollsTask self.old.awaiter.awaiter self.old.task.inner.party self.new.task.inner.party result }
         ensures ended { saw_ended (deeds self.old.task.inner.party) ≡ true → (result ≡ Poll.Ready (Err AwaitError.Closed)) ⊎ (result ≡ Poll.Ready (Err AwaitError.Refused)) }
         ensures closed { result ≡ Poll.Ready (Err AwaitError.Closed) → saw_ended (deeds self.new.task.inner.party) ≡ true }
         ensures awaiter { self.new.awaiter ≡ self.old.awaiter }
         ensures cell { self.new.task.inner.share ≡ self.old.task.inner.share }
         ensures around { self.new.task.around ≡ self.old.task.around }
     {
-        let Some(registered) = self.awaiter.register(cx) else {
+        let Some((registered, awaiter)) = self.awaiter.register(cx) else {
             return Poll::Ready(Err(AwaitError::Refused));
         };
-        match self.task.poll(&self.awaiter) {
+        match self.task.poll(awaiter) {
             TaskPoll::Ready(Ok(output)) => Poll::Ready(Ok(output)),
             TaskPoll::Ready(Err(_)) => Poll::Ready(Err(AwaitError::Closed)),
             TaskPoll::Refused => Poll::Ready(Err(AwaitError::Refused)),
