@@ -1,14 +1,19 @@
 //! A pool that starts its threads: what `start` answers, and what it leaves.
 
 use crate::calls::{
-    drop_pool, drop_turns, guest_tasks, new_guests, new_pool, refusal_of_spawn, turns_of,
+    drop_pool, drop_task, drop_tasks, drop_turns, guest_task, guest_tasks, new_guests, new_pool,
+    refusal_of_spawn, turns_of,
 };
-use crate::guest::{GuestPool, GuestTurns, Guests, shares_and_polls};
+use crate::guest::{Errand, GuestPool, GuestTurns, Guests, shares_and_polls};
 use executor::{SpawnRefusal, TurnsError};
 use std::alloc::Global;
 use std::process::Abort;
+use std::sync::atomic::Ordering;
 use std::sync::{Arc, Wait};
-use std::thread::Threads;
+use std::thread::{Threads, yield_now};
+
+// How often a thread looks for the end of guests before it gives up.
+const LOOKS: u32 = 2_000_000;
 
 // Spawns guests that give way, whose Tasks are let go: the number of this worker.
 fn leave_guests<R: Wait + Abort + Drop + Copy>(
@@ -101,4 +106,46 @@ fn start_and_end<R: Wait + Abort + Threads + Drop + Copy + Send + Sync + 'static
 #[test]
 fn main_may_shut_the_pool_down(rt: HostRuntime) {
     assert!(rt; start_and_end(rt, rt.alloc()));
+}
+
+// Whether all guests that give way end while this thread takes no turns.
+fn await_guests(guests: &Guests) -> bool {
+    for _ in 0..LOOKS {
+        if guests.all_ended.load(Ordering::SeqCst) {
+            return true;
+        }
+        yield_now();
+    }
+    false
+}
+
+// Starts a pool for as long as guests take to end.
+fn start_and_await<R: Wait + Abort + Threads + Drop + Copy + Send + Sync + 'static>(
+    pool: &GuestPool<R>,
+    guests: &Arc<Guests>,
+) -> Result<bool, TurnsError> {
+    let team = pool.team()?;
+    Ok(team.start(&pool.rt(), |_| await_guests(guests)))
+}
+
+// Whether guests end behind one that keeps its thread until they have.
+fn start_beside_a_long_poll<R: Wait + Abort + Threads + Drop + Copy + Send + Sync + 'static>(
+    rt: R,
+    alloc: Global,
+) -> bool {
+    let guests = new_guests(&rt, alloc, 10);
+    let pool = new_pool(rt, alloc, 3);
+    let long = guest_task(&pool, 3, Errand::SpinAndEnd, &guests);
+    let behind = guest_tasks(&pool, 3, 10, &guests);
+    let ended = start_and_await(&pool, &guests);
+    drop_task(long);
+    drop_tasks(behind);
+    drop_pool(pool);
+    ended == Ok(true)
+}
+
+// One of the two other workers has a thread for itself.
+#[test]
+fn each_worker_of_a_start_has_a_thread_of_its_own(rt: HostRuntime) {
+    assert!(rt; start_beside_a_long_poll(rt, rt.alloc()));
 }

@@ -390,6 +390,29 @@ fn a_wait_for_a_member_elapses_at_its_deadline(rt: HostRuntime) {
     assert!(rt; passed && left == (0, 1));
 }
 
+// What a wait answers for a member that has ended, where its deadline has passed as it begins, and how many members are left.
+fn wait_late<R: Wait + Clock + Abort + Drop + Copy + 'static>(
+    rt: R,
+    alloc: Global,
+) -> (Result<Option<u64>, NextMemberError>, usize) {
+    let pool = new_pool(rt, alloc, 1);
+    let counts = new_counts(&pool);
+    let mut group = new_lone(&pool, 0, Errand::GiveWay(0), &counts);
+    let mut turns = turns_of(&pool);
+    tick(&mut turns);
+    let (output, _) = output_within(&mut turns, &mut group, 0);
+    drop_turns(turns);
+    let left = drop_group(group);
+    drop_pool(pool);
+    (output, left)
+}
+
+// It looks once.
+#[test]
+fn a_wait_whose_deadline_has_passed_finds_a_member_that_has_ended(rt: HostRuntime) {
+    assert!(rt; wait_late(rt, rt.alloc()) == (Ok(Some(1)), 0));
+}
+
 // A link awaits a hundred others as a group: it and the others are polled little more than thrice each, together.
 #[test]
 fn a_task_awaits_a_group_in_few_polls(rt: HostRuntime) {

@@ -1,4 +1,4 @@
-//! The mail of a pool goes round its parts: a number that is posted again and again keeps no other one waiting. Who takes one of several has the others looked for.
+//! The mail of a pool goes round its parts: a number that is posted again and again keeps no other one waiting. Who takes one of several has the others looked for. None is lost as room is made for more, or as the pool finishes.
 ghost use Rattle.std.specs.Prelude.{⊤};
 
 use async_task::{Future, Poll, Wake, Yields};
@@ -9,6 +9,12 @@ use std::alloc::Global;
 use std::process::Abort;
 use std::sync::atomic::{AtomicU64, Ordering};
 use std::sync::{Arc, Wait};
+
+// How many places are taken: more than the mail has room for at first.
+const PLACES: usize = 16;
+
+// More turns than any worker takes.
+const TURNS: usize = 1000;
 
 /// What is seen of a task: how often it was polled, and the number of its place.
 #[derive(Drop)]
@@ -146,4 +152,59 @@ fn post_two<R: Wait + Abort + Drop + Copy>(rt: R, alloc: Global) -> (bool, bool,
 #[test]
 fn who_takes_one_of_two_numbers_has_the_other_looked_for(rt: HostRuntime) {
     assert!(rt; post_two(rt, rt.alloc()) == (true, true, 3));
+}
+
+// Of a poster whose number is posted before many places are taken: how often it was polled.
+fn post_before_places<R: Wait + Abort + Drop + Copy>(rt: R, alloc: Global) -> u64 {
+    let pool = PosterPool::new(rt, alloc, 1).expect(&rt, "refused");
+    let patient = spawn_poster(&pool, 0, false);
+    let mut turns = pool.turns(0).expect(&rt, "refused");
+    tick(&mut turns);
+    post(&pool, patient.number.load(Ordering::SeqCst) as usize);
+    let mut keys = Vec::new(alloc);
+    for _ in 0..PLACES {
+        let key = place_for_waker((&pool, 0)).expect(&rt, "refused");
+        keys.push(key).expect(&rt, "refused");
+    }
+    wake_posted((&pool, 0));
+    tick(&mut turns);
+    patient.polls.load(Ordering::SeqCst)
+}
+
+// The number waits as room is made for those of the places.
+#[test]
+fn a_posted_number_waits_while_places_are_taken(rt: HostRuntime) {
+    assert!(rt; post_before_places(rt, rt.alloc()) == 2);
+}
+
+// Runs what a worker of a pool that finishes finds, to the end.
+fn run_to_end<R: Wait + Drop + Copy>(turns: &mut Turns<'_, R, Poster<R>, BellAwaiter<R>>) {
+    for _ in 0..TURNS {
+        match turns.await_next() {
+            Some(runnable) => {
+                runnable.run();
+            }
+            None => return,
+        }
+    }
+}
+
+// Of a poster whose number is posted after one at which no waker is kept, in a pool that finishes: how often it was polled.
+fn post_before_finish<R: Wait + Abort + Drop + Copy>(rt: R, alloc: Global) -> u64 {
+    let pool = PosterPool::new(rt, alloc, 1).expect(&rt, "refused");
+    let empty = place_for_waker((&pool, 0)).expect(&rt, "refused");
+    let patient = spawn_poster(&pool, 0, false);
+    let mut turns = pool.turns(0).expect(&rt, "refused");
+    tick(&mut turns);
+    post(&pool, empty.number());
+    post(&pool, patient.number.load(Ordering::SeqCst) as usize);
+    pool.finish();
+    run_to_end(&mut turns);
+    patient.polls.load(Ordering::SeqCst)
+}
+
+// Its first look finds no Runnable, as the first number wakes nobody.
+#[test]
+fn a_worker_of_a_pool_that_finishes_takes_all_numbers(rt: HostRuntime) {
+    assert!(rt; post_before_finish(rt, rt.alloc()) == 2);
 }
