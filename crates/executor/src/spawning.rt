@@ -168,7 +168,7 @@ impl<R: Wait + Drop + Copy, F: Yields, A: Wake, B: Allocator + Copy, M: Drop> Po
     {
         let reserved = self.crew.reserve(&self.rt, worker)?;
         // It asks while it has the queue, for which `finish` and `shutdown` wait: what was spawned before them they find there.
-        if !self.stage.is_open() {
+        if !self.stage.is_open(&reserved) {
             self.crew.release(reserved);
             return Err(SpawnRefusal::Stopped);
         }

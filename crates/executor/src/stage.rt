@@ -7,7 +7,7 @@ use std::sync::Wait;
 use std::sync::atomic::{AtomicU64, Ordering};
 use work_queues::Crew;
 use work_queues::bells::AllInterrupted;
-use work_queues::board::AllVisited;
+use work_queues::board::{AllVisited, Reserved};
 
 const OPEN: u64 = 0;
 
@@ -34,8 +34,8 @@ impl Stage {
         }
     }
 
-    // Whether the pool takes tasks. No clause says what the word shows.
-    pub(crate) fn is_open(&self) -> bool {
+    // Whether the pool takes tasks. Who asks has a queue, for which `end` waits: what was spawned before that is found there. No clause says what the word shows.
+    pub(crate) fn is_open<T, B: Allocator>(&self, _reserved: &Reserved<T, B>) -> bool {
         self.word.load(Ordering::SeqCst) == OPEN
     }
 
