@@ -48,12 +48,12 @@ fn number_of(token: Option<Token>) -> u64 {
     }
 }
 
-// Whom a desk answers after a wake of the second of two tasks; and then after two, where it has a new waker.
+// Whom a desk answers after a wake of the second of two tasks; then after two, where it has a new waker; and last after one more, where it has none, and one of the first.
 fn woken_of_two<R: Wait + Abort + Drop + Copy>(
     rt: R,
     alloc: Global,
     count: &Arc<()>,
-) -> ([u64; 2], bool, [u64; 2]) {
+) -> ([u64; 2], bool, [u64; 2], u64) {
     let desk = new_desk(rt, alloc, 2);
     let first = keep_new(rt, &desk, count, 1);
     let mut second = keep_new(rt, &desk, count, 2);
@@ -63,15 +63,16 @@ fn woken_of_two<R: Wait + Abort + Drop + Copy>(
     wake(&second);
     wake(&second);
     let again = [number_of(desk.next()), number_of(desk.next())];
-    drop(first);
-    (once, is_kept, again)
+    wake(&second);
+    wake(&first);
+    (once, is_kept, again, number_of(desk.next()))
 }
 
 #[test]
 fn a_wake_hands_the_waker_out_once(rt: HostRuntime) {
     let count = no_tokens(&rt, rt.alloc());
     let woken = woken_of_two(rt, rt.alloc(), &count);
-    assert!(rt; woken == ([2, 0], true, [3, 0]) && tokens(&count) == 0);
+    assert!(rt; woken == ([2, 0], true, [3, 0], 1) && tokens(&count) == 0);
 }
 
 // Whom a wait answers after a ring, and after a wake.

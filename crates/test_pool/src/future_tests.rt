@@ -8,4 +8,5 @@ mod group_tests;
 mod kept_tests;
 mod link;
 mod mail_tests;
+mod sharing_tests;
 mod waiting_tests;

@@ -206,3 +206,23 @@ fn turn_after_drop<R: Wait + Abort + Drop + Copy>(
 fn a_turn_frees_the_place_of_a_dropped_key(rt: HostRuntime) {
     assert!(rt; turn_after_drop(rt, rt.alloc()) == (true, [1, 0], (1, 0)));
 }
+
+// How many places for Tasks are taken before and after a turn that finds nothing and is not the first, where a key was dropped. Interruptions keep both turns from a sleep.
+fn idle_after_drop<R: Wait + Abort + Drop + Copy>(rt: R, alloc: Global) -> [usize; 2] {
+    let pool = new_pool(rt, alloc, 1);
+    let mut turns = turns_of(&pool, 0);
+    let interruptions = pool.bells().interruptions();
+    pool.bells().interrupt();
+    drop(turns.take_turn(interruptions));
+    drop(place_of_task(&pool));
+    let before = pool.kept_tasks();
+    pool.bells().interrupt();
+    drop(turns.take_turn(interruptions));
+    [before, pool.kept_tasks()]
+}
+
+// Each 64th turn frees it, too, but a worker that sleeps takes no turns.
+#[test]
+fn a_turn_that_finds_nothing_frees_the_place_of_a_dropped_key(rt: HostRuntime) {
+    assert!(rt; idle_after_drop(rt, rt.alloc()) == [1, 0]);
+}
