@@ -56,6 +56,28 @@ fn a_search_ends_at_its_deadline(rt: HostRuntime) {
     assert!(rt; none && short <= rested && rested.as_secs() < LONG);
 }
 
+// Whether a turn finds no Runnable until a deadline, and how long that takes.
+fn turn_until<R: Wait + Clock + Abort + Drop + Copy>(rt: R, alloc: Global) -> (bool, Duration) {
+    let pool = new_pool(rt, alloc, 1);
+    let mut turns = turns_of(&pool, 0);
+    let begin = Instant::now(&rt).expect(&rt, "refused");
+    let deadline = begin.checked_add(Duration::from_millis(20));
+    let deadline = deadline.expect(&rt, "refused");
+    let interruptions = pool.bells().interruptions();
+    let none = turns.take_turn_until(interruptions, deadline).is_none();
+    let rested = begin.elapsed(&rt).expect(&rt, "refused");
+    drop_turns(turns);
+    drop_pool(pool);
+    (none, rested)
+}
+
+// Its rest may end for no reason, so it is not asked how short it is.
+#[test]
+fn a_turn_with_nothing_to_do_rests_no_longer_than_its_deadline(rt: HostRuntime) {
+    let (none, rested) = turn_until(rt, rt.alloc());
+    assert!(rt; none && rested.as_secs() < LONG);
+}
+
 // Whether a worker whose deadline has come hears an interruption and finds nothing, and whether that is due again.
 fn hear_at_deadline<R: Wait + Clock + Abort + Drop + Copy>(rt: R, alloc: Global) -> (bool, bool) {
     let pool = new_pool(rt, alloc, 1);
