@@ -35,7 +35,7 @@ pub fn place_for_waker<'x, R: Wait + Drop + Copy, F: Yields, A: Wake, B: Allocat
     let (pool, worker) = place;
     let key = pool.wakers.reserve(pool.rt, worker)?;
     match pool.mail.make_room(key.number()) {
-        Ok(()) => Some(key),
+        Ok(_) => Some(key),
         Err(_) => None,
     }
 }

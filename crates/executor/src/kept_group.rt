@@ -1,5 +1,5 @@
 //! A group that a future keeps: its task awaits the next member that ends, in one call.
-ghost use Rattle.std.specs.Prelude.{◌≡◌, ◌↔◌, IfOk, IfErr, IsTrue, OnErr, None};
+ghost use Rattle.std.specs.Prelude.{◌≡◌, ◌↔◌, IfOk, IfErr, IfSome, IsSome, IsTrue, OnErr, None};
 ghost use Rattle.slab.specs.Slab.{slab_len, ContainsKey};
 ghost use Rattle.task_cell.specs.PollPaths.{IfOutput};
 ghost use Rattle.async_task.specs.HandlePaths.{IfSomeOutput};
@@ -11,7 +11,7 @@ ghost use Rattle.executor.specs.Outputs.{IsYielded};
 use crate::bell_awaiter::BellAwaiter;
 use crate::kept::{drop_kept, keep_task, keep_waker, place_for_task, place_for_waker, poll_kept};
 use crate::pool::{Place, PoolTask, PoolWaker};
-use crate::ringing::{PoolListener, Rings};
+use crate::ringing::{PoolListener, Rings, Told, tell};
 use crate::store::Key;
 use async_task::{TaskClosed, TaskPoll, Wake, Yields};
 use executor_parts::{GroupFull, Mailbox, Posts};
@@ -130,14 +130,25 @@ impl<R: Wait + Drop + Copy> KeptGroup<R> {
     ) -> bool
         ensures { IsTrue result ↔ ContainsKey self.now.members number }
     {
+        self.abort_member(place, number).is_some()
+    }
+
+    // The same. Its number is posted, so that `next` finds that the Task is gone.
+    fn abort_member<'x, F: Yields, B: Allocator + Copy, M: Drop>(
+        &self,
+        place: Place<'x, R, F, BellAwaiter<R>, B, M>,
+        number: usize,
+    ) -> Option<Told>
+        ensures member { IsSome result ↔ ContainsKey self.now.members number }
+        ensures told { IfSome result (λ told. told.number ≡ number) }
+    {
         if !self.members.contains(number) {
-            return false;
+            return None;
         }
         if let Some(key) = self.keys.get(number) {
             drop_kept(place, key);
         }
-        self.mailbox.post(number);
-        true
+        Some(tell(&self.mailbox, number))
     }
 
     /// Cancels all members, as `abort` does.

@@ -1,8 +1,9 @@
 //! The mail of a pool: the numbers of kept wakers that awaiters have posted and no worker has taken yet.
+ghost use Rattle.std.specs.Prelude.{◌<◌, ◌/◌, IfOk};
 ghost use Rattle.executor.specs.Parts.{InParts};
 
 use crate::parts::{PARTS, number_of, part_of, slot_of};
-use crate::posted::{Post, Posted};
+use crate::posted::{Post, Posted, Room};
 use std::alloc::{AllocError, Global};
 use std::sync::atomic::{AtomicU64, AtomicUsize, Ordering};
 use std::sync::{Arc, Wait};
@@ -38,10 +39,11 @@ impl<R: Wait + Drop + Copy> Mail<R> {
         Ok(Arc::new(alloc, mail)?)
     }
 
-    // Has room for this number, and all below it of its part. An error says that there was no memory: nothing has changed then. No clause says so here: `Posted::make_room` answers a `Room` for the number.
-    pub(crate) fn make_room(&self, number: usize) -> Result<(), AllocError> {
-        self.parts[part_of(number)].make_room(&self.rt, slot_of(number))?;
-        Ok(())
+    // Has room for this number, and all below it of its part. An error says that there was no memory: nothing has changed then.
+    pub(crate) fn make_room(&self, number: usize) -> Result<Room, AllocError>
+        ensures { IfOk result (λ room. number / 8 < room.below) }
+    {
+        self.parts[part_of(number)].make_room(&self.rt, slot_of(number))
     }
 
     // Posts a number.

@@ -125,7 +125,7 @@ impl Posted {
         let mut numbers = self.lock(rt);
         let taken = numbers.take();
         if numbers.is_empty() {
-            self.none_waits();
+            self.none_waits(&*numbers);
         }
         taken
     }
@@ -135,8 +135,10 @@ impl Posted {
         self.numbers.lock(rt)
     }
 
-    // Says that no number waits. No clause says so, since all parts share the word.
-    pub(crate) fn none_waits(&self) {
+    // Says that no number waits, as these, which are those of this part. No clause says so, since all parts share the word.
+    pub(crate) fn none_waits(&self, numbers: &Numbers)
+        requires { posted numbers.now ≡ [] }
+    {
         self.due.fetch_and(!self.bit(), Ordering::SeqCst);
     }
 

@@ -4,10 +4,11 @@ ghost use Rattle.std.specs.Arc.{arc_value};
 ghost use Rattle.slab.specs.Slab.{Updates, get};
 ghost use Rattle.executor.specs.Parts.{InParts};
 ghost use Rattle.executor.specs.Places.{held};
+ghost use Rattle.executor.specs.Posts.{IsPost};
 ghost use Rattle.executor.specs.StoreParts.{part_number};
 
 use crate::parts::{PARTS, number_of, part_of, slot_of};
-use crate::posted::Posted;
+use crate::posted::{Post, Posted};
 use slab::Slab;
 use std::alloc::{AllocError, Global};
 use std::sync::atomic::{AtomicU64, Ordering};
@@ -63,16 +64,23 @@ pub struct Key<R: Wait + Drop + Copy> {
 }
 
 impl<R: Wait + Drop + Copy> Drop for Key<R> {
-    // The part that has the place is that of the number. There is room for the slot since the place was taken.
     fn drop(self) {
         let Key {
             rt,
             returned,
             number,
         } = self;
-        returned.slots.post(&rt, slot_of(number));
+        give_back(&rt, &returned, number);
         drop(returned);
     }
+}
+
+// Gives the place of a number back to its part. There is room for the slot since the place was taken.
+fn give_back<R: Wait>(rt: &R, returned: &Returned, number: usize) -> Post
+    requires { returned.now.slots.part ≡ number % 8 }
+    ensures { IsPost number result }
+{
+    returned.slots.post(rt, slot_of(number))
 }
 
 impl<R: Wait + Drop + Copy> Key<R> {
@@ -180,7 +188,9 @@ impl<H: Drop> Part<H> {
                 return Some(handle);
             }
         }
-        self.returned.slots.none_waits();
+        if numbers.is_empty() {
+            self.returned.slots.none_waits(&*numbers);
+        }
         None
     }
 }

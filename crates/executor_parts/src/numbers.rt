@@ -63,6 +63,7 @@ impl Numbers {
 
     /// Takes out the number that has waited longest; `None` where none waits.
     pub fn take(&mut self) -> Option<usize>
+        ensures none { IsNone result → posted self.old ≡ [] }
         ensures first { posted self.old ≡ option_to_list result ++ posted self.new }
         ensures below { IfSome result (λ number. number < room_of self.old) }
         ensures room { room_of self.new ≡ room_of self.old }
