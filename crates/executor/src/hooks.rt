@@ -36,9 +36,9 @@ impl<'x, R: Wait + Clock + Drop + Copy, F: Yields, A: Wake, B: Allocator + Copy,
         }
     }
 
-    /// Is the worker until the pool is shut down, or has finished, as `work` is, and calls `before_rest` before each rest and at each 64th turn. A rest ends at the instant that it answers; with `None` only a Runnable or an interruption ends it. No clause says how often it is called.
+    /// Is the worker until the pool is shut down, or has finished, as `work` is, and calls `before_rest` before each rest and at each 64th turn. A rest ends at the instant that it answers; with `None` only a Runnable or an interruption ends it. Once the pool finishes it is not called any more. No clause says how often it is called.
     ///
-    /// So a worker drives timers of `future_time`: `before_rest` calls `timers.fire(now)`, and hands on what that answers. A timer that another thread makes meanwhile may be due sooner. So do this on each worker whose tasks make timers: it asks before it rests itself. A thread that is no worker interrupts one, by `pool.bells().interrupt()`.
+    /// So a worker drives timers of `future_time`: `before_rest` calls `timers.fire(now)`, and hands on what that answers. A timer that another thread makes during the rest may be due sooner. So do this on each worker: the one whose task made the timer calls `before_rest` before it rests itself. A thread that is no worker interrupts one, by `pool.bells().interrupt()`.
     pub fn work_with<H: Fn() -> Option<Instant>>(&mut self, before_rest: H)
     where
         F: Future<PoolWaker<'x, R, F, A, B, M>>,

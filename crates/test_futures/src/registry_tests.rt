@@ -2,6 +2,7 @@
 //! Of what is only tested (the page of `future_time`): what a registry shows.
 ghost use Rattle.std.specs.Prelude.{⊤};
 
+use crate::calls::{after, now};
 use crate::counter::{Counter, poll};
 use future_parts::{YieldNow, yield_now};
 use future_time::{LastPoll, TaskRegistry, Watched, WatchedTask};
@@ -10,6 +11,7 @@ use std::io;
 use std::process::Abort;
 use std::sync::Wait;
 use std::sync::atomic::{AtomicU64, Ordering};
+use std::thread::{self, Threads};
 use std::time::{Clock, Duration, Instant};
 use task_core::{Future, Poll, Yields};
 
@@ -205,4 +207,66 @@ fn a_refusal_hands_the_future_back(rt: HostRuntime) {
     let waker = Counter::new(&rt, rt.alloc());
     let right = survives(rt, rt.alloc(), &clock, &waker);
     assert!(rt; right);
+}
+
+/// How often each thread does what it does.
+const ROUNDS: u64 = 1_000;
+
+// Watches a future until it is ready, again and again. False where one is refused.
+fn watch_often<R: Wait + Clock + Drop + Copy>(
+    registry: &TaskRegistry<R, u64>,
+    waker: &Counter,
+) -> bool {
+    for name in 0..ROUNDS {
+        let Ok(mut watched) = registry.watch(name, yield_now()) else {
+            return false;
+        };
+        poll(&mut watched, waker);
+        if poll(&mut watched, waker) != Poll::Ready(()) {
+            return false;
+        }
+    }
+    true
+}
+
+// The most futures that a list has shown, of many.
+fn list_often<R: Wait + Clock + Abort + Drop + Copy>(
+    rt: &R,
+    registry: &TaskRegistry<R, u64>,
+) -> usize {
+    let ahead = after(rt, now(rt), 3_600_000);
+    let mut most = 0;
+    for _ in 0..ROUNDS {
+        let shown = registry.not_polled_since(ahead).expect(rt, "refused");
+        most = most.max(shown.len());
+    }
+    most
+}
+
+// A future that is watched as another thread polls it, and then futures that come and go beside lists: what the poll answered, whether all came, the most that a list has shown, and how many are left.
+fn watch_beside_lists<R: Wait + Clock + Abort + Threads + Drop + Copy + Send + Sync>(
+    rt: R,
+    alloc: Global,
+    waker: &Counter,
+) -> (Poll<()>, bool, usize, usize) {
+    let registry = TaskRegistry::new(rt, alloc).expect(&rt, "refused");
+    let mut stays = registry
+        .watch(ROUNDS, yield_now())
+        .ok()
+        .expect(&rt, "refused");
+    let (answer, _) = thread::join(&rt, || poll(&mut stays, waker), || registry.len());
+    let (all, most) = thread::join(
+        &rt,
+        || watch_often(&registry, waker),
+        || list_often(&rt, &registry),
+    );
+    (answer, all, most, registry.len())
+}
+
+#[test]
+fn threads_share_a_registry(rt: HostRuntime) {
+    let waker = Counter::new(&rt, rt.alloc());
+    let (answer, all, most, left) = watch_beside_lists(rt, rt.alloc(), &waker);
+    assert!(rt; answer == Poll::Pending && all);
+    assert!(rt; most >= 1 && most <= 2 && left == 1);
 }
