@@ -49,7 +49,7 @@ fn spawn<R: Wait + Clock + Drop + Copy>(
     Ok(())
 }
 
-// Is a worker until the last task has shut the pool down, and drives the timers before each sleep: whether there was such a worker.
+// Is a worker until the last task has shut the pool down, drives the timers before each sleep, and answers whether there was such a worker.
 fn work<R: Wait + Clock + Drop + Copy + 'static>(
     pool: &JobPool<R>,
     timers: &JobTimers<R>,
@@ -62,7 +62,7 @@ fn work<R: Wait + Clock + Drop + Copy + 'static>(
     true
 }
 
-// Runs two workers: whether both were there.
+// Runs two workers, and answers whether both were there.
 fn work_both<R: Wait + Clock + Threads + Drop + Copy + Send + Sync + 'static>(
     pool: &JobPool<R>,
     timers: &JobTimers<R>,

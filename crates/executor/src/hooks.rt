@@ -11,7 +11,7 @@ use std::sync::Wait;
 use std::time::{Clock, Instant};
 use work_queues::Bells;
 
-/// A worker that always has Runnables calls what it was given once in so many turns.
+/// A worker that always has Runnables calls what it was given once in this many turns.
 const CALLS: u64 = 64;
 
 impl<'x, R: Wait + Clock + Drop + Copy, F: Yields, A: Wake, B: Allocator + Copy, M: Drop> Turns<

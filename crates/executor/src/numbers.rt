@@ -61,7 +61,7 @@ fn set(word: &AtomicU64, number: u64) {
 }
 
 impl Numbers {
-    // Nothing counted yet, of so many workers.
+    // Nothing is counted yet, of `workers` workers.
     pub(crate) fn new(alloc: Global, workers: usize) -> Result<Numbers, AllocError>
         ensures { IfOk result (λ numbers. length numbers.workers.items ≡ workers) }
     {

@@ -50,7 +50,7 @@ fn registry<'a, R: Wait + Abort + Drop + Copy>(
     TaskRegistry::new(ByHand { rt, millis }, alloc).expect(&rt, "refused")
 }
 
-// The instant of so many milliseconds.
+// The instant at which the clock shows `millis` milliseconds.
 fn at<R: Abort>(rt: &R, millis: u64) -> Instant {
     let shown = AtomicU64::new(millis);
     Instant::now(&ByHand {
@@ -60,7 +60,7 @@ fn at<R: Abort>(rt: &R, millis: u64) -> Instant {
     .expect(rt, "refused")
 }
 
-// A future that is ready at its second poll, watched under a number at so many milliseconds.
+// A future that is ready at its second poll, watched under the number `name` from `millis` milliseconds on.
 fn watch<'a, R: Wait + Abort + Drop + Copy>(
     rt: &R,
     registry: &Registry<'a, R>,
@@ -72,7 +72,7 @@ fn watch<'a, R: Wait + Abort + Drop + Copy>(
     registry.watch(name, yield_now()).ok().expect(rt, "refused")
 }
 
-// What the registry shows of so many milliseconds: the first two, and how many there are.
+// The first two futures that were not polled since `since` milliseconds, and how many there are.
 fn shown<'a, R: Wait + Abort + Drop + Copy>(
     rt: &R,
     registry: &Registry<'a, R>,

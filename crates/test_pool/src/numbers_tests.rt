@@ -15,7 +15,7 @@ use std::time::{Clock, Duration, Instant};
 /// How many seconds are longer than any wake takes.
 const LONG: u64 = 10;
 
-// Counts of a worker that found so many Runnables, all at its own queue, and never slept.
+// Counts of a worker that found `found` Runnables, all at its own queue, and never slept.
 fn found(found: u64) -> WorkerCounts {
     WorkerCounts {
         found,
