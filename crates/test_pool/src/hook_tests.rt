@@ -8,8 +8,8 @@ use std::sync::Wait;
 use std::sync::atomic::{AtomicU64, Ordering};
 use std::time::{Clock, Duration, Instant};
 
-// How long a worker waits until it ends its pool.
-const SHORT: Duration = Duration::from_millis(20);
+// How many milliseconds a worker waits until it ends its pool.
+const SHORT: u64 = 20;
 
 // How many seconds are longer than any wake takes.
 const LONG: u64 = 10;
@@ -57,7 +57,9 @@ fn work_for_a_while<R: Wait + Clock + Abort + Drop + Copy + 'static>(
         pool: &pool,
         calls: AtomicU64::new(0),
         last: 1,
-        end: begin.checked_add(SHORT).expect(&rt, "refused"),
+        end: begin
+            .checked_add(Duration::from_millis(SHORT))
+            .expect(&rt, "refused"),
     };
     work_with(&mut turns, &watch);
     let worked = begin.elapsed(&rt).expect(&rt, "refused");
@@ -70,7 +72,7 @@ fn work_for_a_while<R: Wait + Clock + Abort + Drop + Copy + 'static>(
 #[test]
 fn a_rest_ends_at_the_instant_that_the_worker_was_told(rt: HostRuntime) {
     let worked = work_for_a_while(rt, rt.alloc());
-    assert!(rt; SHORT <= worked && worked.as_secs() < LONG);
+    assert!(rt; Duration::from_millis(SHORT) <= worked && worked.as_secs() < LONG);
 }
 
 // How many polls there are on a worker that always has a task, and ends its pool at the third call.
