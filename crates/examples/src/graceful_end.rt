@@ -1,11 +1,10 @@
-//! A graceful end: no more tasks are accepted, a worker runs those that are there until all are gone or the time is over, and what is left is named and cancelled.
+//! A graceful end: no more tasks are accepted, a worker runs those that are there until all are gone or the time is over, and what is left is cancelled.
 ghost use Rattle.std.specs.Prelude.{⊤};
 
 use async_task::{Future, Poll, Wake, Yields};
 use executor::{BellAwaiter, Pool, PoolTask, Turns};
 use executor_parts::left_until;
 use future_parts::{Receiver, TaskTracker, Tracked, task_tracker};
-use future_time::{TaskRegistry, Watched};
 use std::alloc::Global;
 use std::sync::Wait;
 use std::time::{Clock, Duration, Instant};
@@ -36,9 +35,7 @@ impl<W: Wake> Future<W> for Request {
     }
 }
 
-type Registry<R> = TaskRegistry<R, &'static str>;
-
-type Served<R> = Tracked<R, Watched<R, Request, &'static str>, BellAwaiter<R>>;
+type Served<R> = Tracked<R, Request, BellAwaiter<R>>;
 
 type Server<R> = Pool<R, Served<R>, BellAwaiter<R>>;
 
@@ -46,15 +43,12 @@ type ServedTask<'x, R> = PoolTask<'x, R, Served<R>, BellAwaiter<R>>;
 
 type Gone<R> = Receiver<R, (), BellAwaiter<R>>;
 
-fn accept<'x, R: Wait + Clock + Drop + Copy>(
+fn accept<'x, R: Wait + Drop + Copy>(
     pool: &'x Server<R>,
     tracker: &TaskTracker<R, BellAwaiter<R>>,
-    registry: &Registry<R>,
-    name: &'static str,
     rounds: Option<u64>,
 ) -> Option<ServedTask<'x, R>> {
-    let watched = registry.watch(name, Request { rounds }).ok()?;
-    pool.spawn(tracker.track(watched).ok()?).ok()
+    pool.spawn(tracker.track(Request { rounds }).ok()?).ok()
 }
 
 // Runs tasks until all that were tracked are gone, or the time is over. `None` where there is no awaiter.
@@ -82,17 +76,16 @@ fn run_until_gone<'x, R: Wait + Clock + Drop + Copy + 'static>(
     unreachable!()
 }
 
-/// How many of three requests are left at the end, of which one waits for ever, the name of the first, and how many are left once they are cancelled. `None` where memory or the clock was refused.
+/// How many of three requests are left at the end, of which one waits for ever, and how many once they are cancelled. `None` where memory or the clock was refused.
 pub fn left_and_cancelled<R: Wait + Clock + Drop + Copy + 'static>(
     rt: R,
     alloc: Global,
-) -> Option<(usize, &'static str, usize)> {
+) -> Option<(usize, usize)> {
     let pool = Server::new(rt, alloc, 1).ok()?;
     let (tracker, mut gone) = task_tracker(rt, alloc).ok()?;
-    let registry = Registry::new(rt, alloc).ok()?;
-    accept(&pool, &tracker, &registry, "three rounds", Some(3))?.detach();
-    accept(&pool, &tracker, &registry, "five rounds", Some(5))?.detach();
-    let waiting = accept(&pool, &tracker, &registry, "for ever", None)?;
+    accept(&pool, &tracker, Some(3))?.detach();
+    accept(&pool, &tracker, Some(5))?.detach();
+    let waiting = accept(&pool, &tracker, None)?;
     drop(tracker);
     let deadline = Instant::now(&rt)
         .ok()?
@@ -100,8 +93,7 @@ pub fn left_and_cancelled<R: Wait + Clock + Drop + Copy + 'static>(
     let mut turns = pool.turns(0).ok()?;
     run_until_gone(&pool, &mut turns, &mut gone, deadline)?;
     let left = gone.sender_count();
-    let name = registry.not_polled_since(deadline).ok()?.first()?.name;
     pool.shutdown();
     drop(waiting);
-    Some((left, name, gone.sender_count()))
+    Some((left, gone.sender_count()))
 }

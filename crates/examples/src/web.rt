@@ -1,4 +1,4 @@
-//! A server on a pool whose workers drive the timers: 64 tasks take a thousand requests from a channel, and serve eight at a time, each until a timeout.
+//! A server on a pool: 64 tasks take a thousand requests from a channel, and serve eight at a time, each until a timeout.
 
 mod job;
 mod server;
@@ -13,7 +13,7 @@ use source::Source;
 use std::alloc::{AllocError, Global};
 use std::sync::{Arc, Wait};
 use std::thread::{self, Threads};
-use std::time::{Clock, Instant};
+use std::time::Clock;
 
 const SERVERS: usize = 64;
 
@@ -49,33 +49,35 @@ fn spawn<R: Wait + Clock + Drop + Copy>(
     Ok(())
 }
 
-// Is a worker until the last task has shut the pool down, drives the timers before each sleep, and answers whether there was such a worker.
-fn work<R: Wait + Clock + Drop + Copy + 'static>(
-    pool: &JobPool<R>,
-    timers: &JobTimers<R>,
-    worker: usize,
-) -> bool {
-    let Ok(mut turns) = pool.turns(worker) else {
-        return false;
-    };
-    turns.work_with(|| timers.fire(Instant::now(&pool.rt()).ok()?));
-    true
+// Is a worker until the shutdown: whether there was such a worker.
+fn work<R: Wait + Clock + Drop + Copy + 'static>(pool: &JobPool<R>, worker: usize) -> bool {
+    pool.run(worker).is_ok()
 }
 
-// Runs two workers, and answers whether both were there.
+// Runs two workers until the last task has shut the pool down, and ends the thread that drives the timers.
 fn work_both<R: Wait + Clock + Threads + Drop + Copy + Send + Sync + 'static>(
     pool: &JobPool<R>,
     timers: &JobTimers<R>,
-) -> bool {
-    let both = thread::join(
-        &pool.rt(),
-        || work(pool, timers, 0),
-        || work(pool, timers, 1),
-    );
-    both == (true, true)
+) {
+    thread::join(&pool.rt(), || work(pool, 0), || work(pool, 1));
+    timers.close();
 }
 
-/// How many requests were served, and how many were not in time. `None` where memory or the clock was refused.
+// Runs all threads to their end: whether there was one that drives the timers.
+fn run<R: Wait + Clock + Threads + Drop + Copy + Send + Sync + 'static>(
+    pool: &JobPool<R>,
+    timers: &JobTimers<R>,
+) -> bool {
+    thread::scope(thread::scope_env(), &pool.rt(), |scope| {
+        if scope.spawn(move || timers.run().is_ok()).is_err() {
+            return false;
+        }
+        work_both(pool, timers);
+        true
+    })
+}
+
+/// How many requests were served, and how many were not in time. `None` where memory, the clock or a thread for the timers was refused.
 pub fn served_and_late<R: Wait + Clock + Threads + Drop + Copy + Send + Sync + 'static>(
     rt: R,
     alloc: Global,
@@ -84,7 +86,7 @@ pub fn served_and_late<R: Wait + Clock + Threads + Drop + Copy + Send + Sync + '
     let tally = Arc::new(alloc, Tally::new(SERVERS as u64 + 1)).ok()?;
     let pool = JobPool::new(rt, alloc, 2).ok()?;
     spawn_all(&pool, &timers, &tally).ok()?;
-    if !work_both(&pool, &timers) {
+    if !run(&pool, &timers) {
         return None;
     }
     Some(tally.counts())
