@@ -4,6 +4,7 @@ ghost use Rattle.std.specs.Arc.{arc_value};
 
 use crate::kept::{KeptTask, KeptWaker};
 use crate::mail::Mail;
+use crate::numbers::Numbers;
 use crate::stage::Stage;
 use crate::store::Store;
 use async_task::{Runnable, Schedule, ScheduleInfo, Task, TaskWaker, Wake, Yields};
@@ -58,6 +59,7 @@ pub struct Pool<R: Wait + Drop + Copy, F: Yields, A: Wake, B: Allocator = Global
     pub(crate) wakers: Store<KeptWaker<R, F, A, M>>,
     pub(crate) tasks: Store<KeptTask<R, F, A, M>>,
     pub(crate) mail: Arc<Mail<R>>,
+    pub(crate) numbers: Numbers,
 }
 
 impl<R: Wait + Drop + Copy, F: Yields, A: Wake, B: Allocator, M: Drop> Drop
@@ -73,6 +75,7 @@ impl<R: Wait + Drop + Copy, F: Yields, A: Wake, B: Allocator, M: Drop> Drop
             wakers,
             tasks,
             mail,
+            numbers,
         } = self;
         drop(items);
         drop(crew);
@@ -80,6 +83,7 @@ impl<R: Wait + Drop + Copy, F: Yields, A: Wake, B: Allocator, M: Drop> Drop
         drop(wakers);
         drop(tasks);
         drop(mail);
+        drop(numbers);
     }
 }
 
@@ -143,11 +147,13 @@ impl<R: Wait + Drop + Copy, F: Yields, A: Wake, B: Allocator + Copy, M: Drop> Po
         ensures settings { IfOk result (λ pool. pool.crew.settings ≡ settings) }
         ensures given { IfOk result (λ pool. (pool.rt ≡ rt) × (pool.alloc ≡ alloc) × (pool.items ≡ items)) }
     {
+        let crew = Crew::with_settings(alloc, items, workers, settings)?;
         Ok(Pool {
             rt,
             alloc,
             items,
-            crew: Crew::with_settings(alloc, items, workers, settings)?,
+            numbers: Numbers::new(alloc, crew.workers())?,
+            crew,
             stage: Stage::new(),
             wakers: Store::new(alloc)?,
             tasks: Store::new(alloc)?,

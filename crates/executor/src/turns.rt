@@ -38,6 +38,8 @@ pub struct Turns<
 > {
     pub(crate) pool: &'x Pool<R, F, A, B, M>,
     pub(crate) worker: Worker<Queued<R, F, A, M>, B>,
+    // What the worker of this number had counted before these turns.
+    pub(crate) earlier: WorkerCounts,
     count: u64,
 }
 
@@ -47,9 +49,12 @@ impl<'x, R: Wait + Drop + Copy, F: Yields, A: Wake, B: Allocator, M: Drop> Drop
         let Turns {
             pool,
             worker,
+            earlier,
             count: _,
         } = self;
         let number = worker.number();
+        // The next turns of this number begin with it.
+        pool.numbers.show(number, earlier, worker.counts());
         drop(pool.crew.end_turns(&pool.rt, worker));
         // A shutdown may have passed both queues before this worker moved Runnables there.
         if pool.is_shut_down() {
@@ -70,6 +75,7 @@ impl<R: Wait + Drop + Copy, F: Yields, A: Wake, B: Allocator + Copy, M: Drop> Po
         match self.crew.worker(self.items, worker) {
             Ok(worker) => Ok(Turns {
                 pool: self,
+                earlier: self.numbers.shown_by(worker.number()),
                 worker,
                 count: 0,
             }),
@@ -154,7 +160,10 @@ impl<'x, R: Wait + Drop + Copy, F: Yields, A: Wake, B: Allocator + Copy, M: Drop
         ensures hands { IsNone result → self.new.worker.batch.items ≡ [] }
         ensures owes { IsSome result → OwesNothing self.new.worker }
     {
-        let runnable = self.pool.crew.find(&self.pool.rt, &mut self.worker)?;
+        let Some(runnable) = self.pool.crew.find(&self.pool.rt, &mut self.worker) else {
+            self.show_counts();
+            return None;
+        };
         Some(runnable.with_around(place))
     }
 
@@ -254,6 +263,7 @@ impl<'x, R: Wait + Drop + Copy, F: Yields, A: Wake, B: Allocator + Copy, M: Drop
     {
         if self.count % COLLECTS == 0 {
             collect(place);
+            self.show_counts();
         }
         self.count = self.count.wrapping_add(1);
         let woke = wake_posted(place);

@@ -40,6 +40,8 @@ mod racing_tests;
 #[cfg(test)]
 mod refusal_tests;
 #[cfg(test)]
+mod registry_tests;
+#[cfg(test)]
 mod semaphore_tests;
 #[cfg(test)]
 mod shown_tests;

@@ -16,11 +16,15 @@ mod future_tests;
 #[cfg(test)]
 mod guest;
 #[cfg(test)]
+mod hook_tests;
+#[cfg(test)]
 mod hostile_tests;
 #[cfg(test)]
 mod kept_tests;
 #[cfg(test)]
 mod metadata_tests;
+#[cfg(test)]
+mod numbers_tests;
 #[cfg(test)]
 mod order_tests;
 #[cfg(test)]
