@@ -4,7 +4,7 @@ ghost use Rattle.executor.specs.Hands.{ComesFirst};
 ghost use Rattle.work_queues.specs.Settled.{OwesNothing};
 
 use crate::pool::PoolRunnable;
-use crate::turns::Turns;
+use crate::turns::{Turns, hand_out_if_any};
 use async_task::{Wake, Yields};
 use executor_parts::left_until;
 use std::alloc::Allocator;
@@ -41,7 +41,7 @@ impl<'x, R: Wait + Clock + Drop + Copy, F: Yields, A: Wake, B: Allocator + Copy,
         deadline: Instant,
     ) -> Option<PoolRunnable<'x, R, F, A, B, M>>
         ensures place { IfSome result (λ runnable. runnable.around.1 ≡ self.old.worker.number) }
-        ensures first { ComesFirst (λ queued runnable. runnable.inner ≡ queued.inner) self.old.worker.batch.items result self.new.worker.batch.items }
+        ensures first { ComesFirst (λ queued runnable. runnable.inner ≡ queued.parked.inner) self.old.worker.batch.items result self.new.worker.batch.items }
         ensures hands { IsNone result → self.new.worker.batch.items ≡ [] }
         ensures settled { OwesNothing self.new.worker }
     {
@@ -62,8 +62,9 @@ impl<'x, R: Wait + Clock + Drop + Copy, F: Yields, A: Wake, B: Allocator + Copy,
             rt: self.pool.rt,
             at: deadline,
         };
+        let place = self.place();
         let next = self.await_within(&limit);
         self.worker.pay();
-        next
+        hand_out_if_any(next, place)
     }
 }

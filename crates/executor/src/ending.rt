@@ -27,7 +27,7 @@ impl<R: Wait + Drop + Copy, F: Yields, A: Wake, B: Allocator + Copy, M: Drop> Po
         self.cancel_queued().0
     }
 
-    // Drops the Runnables of all queues, which cancels their tasks, until no queue shows one: how many there were.
+    // Cancels the Runnables of all queues, until no queue shows one: how many there were.
     fn cancel_queued(&self) -> (usize, NothingShown)
         ensures { SawNothing (arc_value self.now.crew.bells) result.1 }
     {
@@ -41,7 +41,7 @@ impl<R: Wait + Drop + Copy, F: Yields, A: Wake, B: Allocator + Copy, M: Drop> Po
         unreachable!()
     }
 
-    // Drops the Runnables of each queue in turn. As of `Crew::pop`, no clause says how many there were.
+    // Cancels the Runnables of each queue in turn. As of `Crew::pop`, no clause says how many there were.
     fn cancel_each_queue(&self) -> usize {
         let mut cancelled = 0usize;
         for queue in 0..=self.workers() {
@@ -71,13 +71,13 @@ impl<R: Wait + Drop + Copy, F: Yields, A: Wake, B: Allocator, M: Drop> Pool<R, F
         Some(none)
     }
 
-    // Drops the Runnables of a queue, which cancels their tasks: how many there were. As of `Crew::pop`, no clause says which queue.
+    // Cancels the Runnables of a queue: how many there were. As of `Crew::pop`, no clause says which queue.
     pub(crate) fn cancel_queue(&self, queue: usize) -> usize {
         let mut cancelled = 0usize;
         for _ in self.rt.forever() {
             match self.crew.pop(&self.rt, queue) {
-                Some(runnable) => {
-                    drop(runnable);
+                Some(due) => {
+                    due.cancel();
                     cancelled = cancelled.saturating_add(1);
                 }
                 None => return cancelled,

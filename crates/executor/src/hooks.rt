@@ -4,7 +4,7 @@ ghost use Rattle.work_queues.specs.Settled.{OwesNothing};
 
 use crate::kept::wake_posted;
 use crate::pool::{PoolRunnable, PoolWaker};
-use crate::turns::{Turns, run_if_any};
+use crate::turns::Turns;
 use async_task::{Future, Wake, Yields};
 use std::alloc::Allocator;
 use std::sync::Wait;
@@ -61,7 +61,9 @@ impl<'x, R: Wait + Clock + Drop + Copy, F: Yields, A: Wake, B: Allocator + Copy,
             wake_posted(place);
             if turns % CALLS == 0 || !self.tick() {
                 let deadline = before_rest();
-                run_if_any(self.take_turn_by(interruptions, deadline));
+                if let Some(runnable) = self.take_turn_by(interruptions, deadline) {
+                    runnable.run();
+                }
             }
         }
     }

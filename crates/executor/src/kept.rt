@@ -4,6 +4,7 @@ ghost use Rattle.task_cell.specs.PollPaths.{IfOutput};
 ghost use Rattle.executor.specs.Outputs.{IsYielded};
 
 use crate::bell_awaiter::BellAwaiter;
+use crate::due::DueRunnable;
 use crate::pool::{Place, PoolTask, PoolWaker, ToPool};
 use crate::store::{Key, Walk};
 use async_task::{
@@ -18,13 +19,13 @@ pub type KeptWaker<R, F, A, M = ()> = StoredWaker<R, F, ToPool, M, A>;
 /// A Task as the pool keeps it.
 pub type KeptTask<R, F, A, M = ()> = Task<R, F, ToPool, M, A, ()>;
 
-// A handle with `()` has no queue at hand. This crate wakes none, and drops one only where a queue has no memory for it, after a shutdown, and with the pool: the Runnable that may be due then is dropped, too.
+// A handle with `()` has no queue at hand. This crate wakes none, and drops one only where a queue has no memory for it, after a shutdown, and with the pool: the Runnable that may be due then is cancelled.
 impl<R: Wait + Drop + Copy, F: Yields, A: Wake, M: Drop> Schedule<Runnable<R, F, ToPool, M, A, ()>>
     for ToPool {
     ghost scheduled = { λ _ _ _. ⊤ };
 
     fn schedule(&self, runnable: Runnable<R, F, ToPool, M, A, ()>, _info: ScheduleInfo) {
-        drop(runnable);
+        DueRunnable::new(runnable).cancel();
     }
 }
 

@@ -8,6 +8,7 @@
 pub mod bell_awaiter;
 mod deadlines;
 mod debug;
+mod due;
 mod ending;
 pub mod errors;
 mod hooks;

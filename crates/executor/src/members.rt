@@ -65,7 +65,7 @@ impl<'x, R: Wait + Drop + Copy, F: Yields, B: Allocator + Copy, M: Drop> Turns<
                 self.worker.pay();
                 return next;
             }
-            run_if_any(self.turn(place, interruptions, &NoLimit));
+            run_if_any(self.turn(place, interruptions, &NoLimit), place);
         }
         unreachable!()
     }
@@ -145,7 +145,7 @@ impl<'x, R: Wait + Clock + Drop + Copy, F: Yields, B: Allocator + Copy, M: Drop>
                 self.worker.pay();
                 return Err(NextMemberError::Elapsed);
             }
-            run_if_any(self.turn(place, interruptions, &limit));
+            run_if_any(self.turn(place, interruptions, &limit), place);
         }
         unreachable!()
     }

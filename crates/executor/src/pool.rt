@@ -2,6 +2,7 @@
 ghost use Rattle.std.specs.Prelude.{⊤, ◌≡◌, IfOk, max, min};
 ghost use Rattle.std.specs.Arc.{arc_value};
 
+use crate::due::{DueRunnable, cancel_queues};
 use crate::kept::{KeptTask, KeptWaker};
 use crate::mail::Mail;
 use crate::numbers::Numbers;
@@ -10,6 +11,7 @@ use crate::store::Store;
 use async_task::{Runnable, Schedule, ScheduleInfo, Task, TaskWaker, Wake, Yields};
 use std::alloc::{AllocError, Allocator, Global};
 use std::sync::{Arc, Wait};
+use work_queues::bells::MOST_WORKERS;
 use work_queues::{Bells, Crew, Settings};
 
 /// What the handles of a pool carry: the pool, and the number of the worker on which they were made or woken. It stands for a thread local. A thread that is no worker has the number of workers, or any above it.
@@ -45,16 +47,13 @@ pub type PoolWaker<'x, R, F, A, B = Global, M = ()> = TaskWaker<
     Place<'x, R, F, A, B, M>,
 >;
 
-// A Runnable as the queues hold it.
-pub(crate) type Queued<R, F, A, M> = Runnable<R, F, ToPool, M, A, ()>;
-
-/// The queues of a pool of workers. `F` is the one type of its futures, `A` that of the awaiters of their Tasks, `B` is where its queues take their memory, and `M` the type of the metadata of its tasks. With the pool the Runnables that are left are dropped, which cancels their tasks.
+/// The queues of a pool of workers. `F` is the one type of its futures, `A` that of the awaiters of their Tasks, `B` is where its queues take their memory, and `M` the type of the metadata of its tasks. With the pool the Runnables that are left are cancelled.
 #[must_use]
 pub struct Pool<R: Wait + Drop + Copy, F: Yields, A: Wake, B: Allocator = Global, M: Drop = ()> {
     pub(crate) rt: R,
     pub(crate) alloc: Global,
     pub(crate) items: B,
-    pub(crate) crew: Crew<Queued<R, F, A, M>, B>,
+    pub(crate) crew: Crew<DueRunnable<R, F, A, M>, B>,
     pub(crate) stage: Stage,
     pub(crate) wakers: Store<KeptWaker<R, F, A, M>>,
     pub(crate) tasks: Store<KeptTask<R, F, A, M>>,
@@ -64,7 +63,6 @@ pub struct Pool<R: Wait + Drop + Copy, F: Yields, A: Wake, B: Allocator = Global
 
 impl<R: Wait + Drop + Copy, F: Yields, A: Wake, B: Allocator, M: Drop> Drop
     for Pool<R, F, A, B, M> {
-    // As a derived drop, which would stand field by field in each function that drops a pool.
     fn drop(self) {
         let Pool {
             rt: _,
@@ -78,7 +76,7 @@ impl<R: Wait + Drop + Copy, F: Yields, A: Wake, B: Allocator, M: Drop> Drop
             numbers,
         } = self;
         drop(items);
-        drop(crew);
+        cancel_queues(crew);
         drop(stage);
         drop(wakers);
         drop(tasks);
@@ -96,14 +94,17 @@ impl<'x, R: Wait + Drop + Copy, F: Yields, A: Wake, B: Allocator + Copy, M: Drop
 > for ToPool {
     ghost scheduled = { λ _ _ _. ⊤ };
 
-    // A Runnable that no queue has memory for, or that comes after the shutdown, is dropped: its task is cancelled. The call answers nothing, so no clause says in which queue one is: `Crew::push` has it.
+    // A Runnable that no queue has memory for, or that comes after the shutdown, is cancelled. The call answers nothing, so no clause says in which queue one is: `Crew::push` has it.
     fn schedule(&self, runnable: PoolRunnable<'x, R, F, A, B, M>, _info: ScheduleInfo) {
         let (pool, worker) = runnable.around();
+        let due = DueRunnable::new(runnable);
         if pool.is_shut_down() {
-            drop(runnable);
+            due.cancel();
             return;
         }
-        drop(pool.crew.push(&pool.rt, worker, runnable.with_around(())));
+        if let Err(refused) = pool.crew.push(&pool.rt, worker, due) {
+            refused.cancel();
+        }
         // A shutdown meanwhile may have passed this queue already.
         if pool.is_shut_down() {
             pool.cancel_queue(worker);
@@ -147,17 +148,20 @@ impl<R: Wait + Drop + Copy, F: Yields, A: Wake, B: Allocator + Copy, M: Drop> Po
         ensures settings { IfOk result (λ pool. pool.crew.settings ≡ settings) }
         ensures given { IfOk result (λ pool. (pool.rt ≡ rt) × (pool.alloc ≡ alloc) × (pool.items ≡ items)) }
     {
-        let crew = Crew::with_settings(alloc, items, workers, settings)?;
+        let wakers = Store::new(alloc)?;
+        let tasks = Store::new(alloc)?;
+        let mail = Mail::new(rt, alloc)?;
+        let numbers = Numbers::new(alloc, workers.max(1).min(MOST_WORKERS))?;
         Ok(Pool {
             rt,
             alloc,
             items,
-            numbers: Numbers::new(alloc, crew.workers())?,
-            crew,
+            crew: Crew::with_settings(alloc, items, workers, settings)?,
             stage: Stage::new(),
-            wakers: Store::new(alloc)?,
-            tasks: Store::new(alloc)?,
-            mail: Mail::new(rt, alloc)?,
+            wakers,
+            tasks,
+            mail,
+            numbers,
         })
     }
 

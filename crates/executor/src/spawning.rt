@@ -6,8 +6,9 @@ ghost use Rattle.task_cell.specs.Belongs.{spawned_in};
 ghost use Rattle.work_queues.specs.Rooms.{HasRoom};
 ghost use Rattle.executor.specs.Appends.{Appends};
 
+use crate::due::DueRunnable;
 use crate::errors::{PoolSpawnError, SpawnRefusal};
-use crate::pool::{Pool, PoolTask, Queued, ToPool};
+use crate::pool::{Pool, PoolTask, ToPool};
 use async_task::{Builder, Wake, Yields, spawn};
 use std::alloc::Allocator;
 use std::collections::VecDeque;
@@ -43,7 +44,7 @@ impl<R: Wait + Drop + Copy, F: Yields, A: Wake, B: Allocator + Copy> Pool<R, F, 
         };
         match spawn(self.rt, self.alloc, future, ToPool, (self, worker)) {
             Ok((runnable, task)) => {
-                self.crew.put(reserved, runnable.with_around(()));
+                self.crew.put(reserved, DueRunnable::new(runnable));
                 Ok(task)
             }
             Err(refused) => {
@@ -148,7 +149,7 @@ impl<R: Wait + Drop + Copy, F: Yields, A: Wake, B: Allocator + Copy, M: Drop> Po
         };
         match builder.spawn(self.rt, self.alloc, maker, ToPool, (self, worker)) {
             Ok((runnable, task)) => {
-                self.crew.put(reserved, runnable.with_around(()));
+                self.crew.put(reserved, DueRunnable::new(runnable));
                 Ok(task)
             }
             Err(refused) => {
@@ -162,7 +163,7 @@ impl<R: Wait + Drop + Copy, F: Yields, A: Wake, B: Allocator + Copy, M: Drop> Po
     }
 
     // Room for one Runnable at the queue of a worker, or in that for what comes from outside. Where it is refused, no queue is locked.
-    fn reserve(&self, worker: usize) -> Result<Reserved<Queued<R, F, A, M>, B>, SpawnRefusal>
+    fn reserve(&self, worker: usize) -> Result<Reserved<DueRunnable<R, F, A, M>, B>, SpawnRefusal>
         ensures room { IfOk result (HasRoom self.now.crew.board) }
         ensures queue { IfOk result (λ reserved. reserved.queue ≡ min worker (arc_value self.now.crew.bells).workers) }
     {

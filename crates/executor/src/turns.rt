@@ -1,5 +1,5 @@
 //! The turns of workers: one worker, what all workers need, and a worker that waits for one Task.
-ghost use Rattle.std.specs.Prelude.{◌≡◌, ◌≤◌, ◌↔◌, ℕ, [], length, true, false, IfOk, IfSome, IsNone, IsSome, IsTrue};
+ghost use Rattle.std.specs.Prelude.{◌≡◌, ◌≤◌, ◌↔◌, ℕ, [], length, true, false, IfOk, IfSome, IsNone, IsSome, IsSomeAnd, IsTrue, MatchOption};
 ghost use Rattle.std.specs.Arc.{arc_value};
 ghost use mathlib.Core.Option.{some};
 ghost use lib.ListN.{get_elem?};
@@ -9,9 +9,10 @@ ghost use Rattle.executor.specs.Wakes.{RingsWorker};
 ghost use Rattle.work_queues.specs.Settled.{OwesNothing};
 
 use crate::bell_awaiter::BellAwaiter;
+use crate::due::{DueRunnable, cancel_all};
 use crate::errors::TurnsError;
 use crate::kept::{collect, wake_posted};
-use crate::pool::{Place, Pool, PoolRunnable, PoolWaker, Queued};
+use crate::pool::{Place, Pool, PoolRunnable, PoolWaker};
 use crate::ringing::{PoolListener, Rings};
 use async_task::{Future, TaskClosed, TaskPoll, Wake, Yields};
 use executor_parts::{Awaited, BlockOnError};
@@ -26,7 +27,7 @@ const COLLECTS: u64 = 64;
 ///
 /// Each call hands the thread back with a worker that owes nothing (`settled`), so the thread may do anything else then: what woke the worker is run, answered, or told to another one.
 ///
-/// Their drop puts the Runnables in the hands of the worker into the queue for what comes from outside, and has another worker look once more. A Runnable for which that queue has no memory is dropped, which cancels its task.
+/// Their drop puts the Runnables in the hands of the worker into the queue for what comes from outside, and has another worker look once more. A Runnable for which that queue has no memory is cancelled.
 #[must_use]
 pub struct Turns<
     'x,
@@ -37,7 +38,7 @@ pub struct Turns<
     M: Drop = (),
 > {
     pub(crate) pool: &'x Pool<R, F, A, B, M>,
-    pub(crate) worker: Worker<Queued<R, F, A, M>, B>,
+    pub(crate) worker: Worker<DueRunnable<R, F, A, M>, B>,
     // What the worker of this number had counted before these turns.
     pub(crate) earlier: WorkerCounts,
     count: u64,
@@ -55,7 +56,7 @@ impl<'x, R: Wait + Drop + Copy, F: Yields, A: Wake, B: Allocator, M: Drop> Drop
         let number = worker.number();
         // The next turns of this number begin with it.
         pool.numbers.show(number, earlier, worker.counts());
-        drop(pool.crew.end_turns(&pool.rt, worker));
+        cancel_all(pool.crew.end_turns(&pool.rt, worker));
         // A shutdown may have passed both queues before this worker moved Runnables there.
         if pool.is_shut_down() {
             pool.cancel_queue(number);
@@ -143,28 +144,27 @@ impl<'x, R: Wait + Drop + Copy, F: Yields, A: Wake, B: Allocator + Copy, M: Drop
     /// The next Runnable for this worker: its own, one that came from outside, or one of another worker. `None` where there is none, or only such as this worker leaves to another one that is about to run them. Run it; its drop cancels its task.
     pub fn next(&mut self) -> Option<PoolRunnable<'x, R, F, A, B, M>>
         ensures place { IfSome result (λ runnable. runnable.around.1 ≡ self.old.worker.number) }
-        ensures first { ComesFirst (λ queued runnable. runnable.inner ≡ queued.inner) self.old.worker.batch.items result self.new.worker.batch.items }
+        ensures first { ComesFirst (λ queued runnable. runnable.inner ≡ queued.parked.inner) self.old.worker.batch.items result self.new.worker.batch.items }
         ensures hands { IsNone result → self.new.worker.batch.items ≡ [] }
         ensures settled { OwesNothing self.new.worker }
     {
         let place = self.place();
-        let next = self.find(place);
+        let next = self.find();
         self.worker.pay();
-        next
+        hand_out_if_any(next, place)
     }
 
     // As `next`, but where it finds none the worker owes what it did before.
-    fn find(&mut self, place: Place<'x, R, F, A, B, M>) -> Option<PoolRunnable<'x, R, F, A, B, M>>
-        ensures place { IfSome result (λ runnable. runnable.around.1 ≡ place.entry.1) }
-        ensures first { ComesFirst (λ queued runnable. runnable.inner ≡ queued.inner) self.old.worker.batch.items result self.new.worker.batch.items }
+    fn find(&mut self) -> Option<DueRunnable<R, F, A, M>>
+        ensures first { ComesFirst (λ queued taken. taken ≡ queued) self.old.worker.batch.items result self.new.worker.batch.items }
         ensures hands { IsNone result → self.new.worker.batch.items ≡ [] }
         ensures owes { IsSome result → OwesNothing self.new.worker }
     {
-        let Some(runnable) = self.pool.crew.find(&self.pool.rt, &mut self.worker) else {
+        let Some(due) = self.pool.crew.find(&self.pool.rt, &mut self.worker) else {
             self.show_counts();
             return None;
         };
-        Some(runnable.with_around(place))
+        Some(due)
     }
 
     /// Runs the task of the Runnable that `next` answers. False where that is `None`.
@@ -174,19 +174,22 @@ impl<'x, R: Wait + Drop + Copy, F: Yields, A: Wake, B: Allocator + Copy, M: Drop
         ensures hands { result ≡ false → self.new.worker.batch.items ≡ [] }
         ensures settled { OwesNothing self.new.worker }
     {
-        run_if_any(self.next())
+        let place = self.place();
+        let next = self.find();
+        self.worker.pay();
+        run_if_any(next, place)
     }
 
     /// Searches for a while, if no other worker does, and then sleeps, if no queue shows a Runnable, the pool was not shut down, and the bells counted no interruption since `interruptions`. It may also end its rest for no reason. Then it wakes one task whose number was posted, and takes the next Runnable, if there is one. Run it. `take_turn` rests where it is due.
     pub fn rest(&mut self, interruptions: u64) -> Option<PoolRunnable<'x, R, F, A, B, M>>
         ensures place { IfSome result (λ runnable. runnable.around.1 ≡ self.old.worker.number) }
-        ensures first { ComesFirst (λ queued runnable. runnable.inner ≡ queued.inner) self.old.worker.batch.items result self.new.worker.batch.items }
+        ensures first { ComesFirst (λ queued runnable. runnable.inner ≡ queued.parked.inner) self.old.worker.batch.items result self.new.worker.batch.items }
         ensures hands { IsNone result → self.new.worker.batch.items ≡ [] }
         ensures settled { OwesNothing self.new.worker }
     {
         let place = self.place();
         self.rest_within(interruptions, &NoLimit);
-        self.look_again(place)
+        hand_out_if_any(self.look_again(place), place)
     }
 
     // Searches and sleeps, as `rest` says, no longer than a limit. The worker may owe something then.
@@ -203,17 +206,13 @@ impl<'x, R: Wait + Drop + Copy, F: Yields, A: Wake, B: Allocator + Copy, M: Drop
     }
 
     // The look after a rest, which ends what the worker owes.
-    fn look_again(
-        &mut self,
-        place: Place<'x, R, F, A, B, M>,
-    ) -> Option<PoolRunnable<'x, R, F, A, B, M>>
-        ensures place { IfSome result (λ runnable. runnable.around.1 ≡ place.entry.1) }
-        ensures first { ComesFirst (λ queued runnable. runnable.inner ≡ queued.inner) self.old.worker.batch.items result self.new.worker.batch.items }
+    fn look_again(&mut self, place: Place<'x, R, F, A, B, M>) -> Option<DueRunnable<R, F, A, M>>
+        ensures first { ComesFirst (λ queued taken. taken ≡ queued) self.old.worker.batch.items result self.new.worker.batch.items }
         ensures hands { IsNone result → self.new.worker.batch.items ≡ [] }
         ensures settled { OwesNothing self.new.worker }
     {
         wake_posted(place);
-        let next = self.find(place);
+        let next = self.find();
         self.worker.settle();
         next
     }
@@ -221,7 +220,7 @@ impl<'x, R: Wait + Drop + Copy, F: Yields, A: Wake, B: Allocator + Copy, M: Drop
     /// A turn but for the run of what it takes: wakes one task whose number was posted, and takes the next Runnable. At the first and each 64th turn, and where there is none, it frees what keys left. Where there is neither it rests, as `rest` says, if the bells counted no interruption since `interruptions`: so ask for them before the last look at what the loop waits for. Run what it answers.
     pub fn take_turn(&mut self, interruptions: u64) -> Option<PoolRunnable<'x, R, F, A, B, M>>
         ensures place { IfSome result (λ runnable. runnable.around.1 ≡ self.old.worker.number) }
-        ensures first { ComesFirst (λ queued runnable. runnable.inner ≡ queued.inner) self.old.worker.batch.items result self.new.worker.batch.items }
+        ensures first { ComesFirst (λ queued runnable. runnable.inner ≡ queued.parked.inner) self.old.worker.batch.items result self.new.worker.batch.items }
         ensures hands { IsNone result → self.new.worker.batch.items ≡ [] }
         ensures settled { OwesNothing self.new.worker }
     {
@@ -235,17 +234,17 @@ impl<'x, R: Wait + Drop + Copy, F: Yields, A: Wake, B: Allocator + Copy, M: Drop
         limit: &L,
     ) -> Option<PoolRunnable<'x, R, F, A, B, M>>
         ensures place { IfSome result (λ runnable. runnable.around.1 ≡ self.old.worker.number) }
-        ensures first { ComesFirst (λ queued runnable. runnable.inner ≡ queued.inner) self.old.worker.batch.items result self.new.worker.batch.items }
+        ensures first { ComesFirst (λ queued runnable. runnable.inner ≡ queued.parked.inner) self.old.worker.batch.items result self.new.worker.batch.items }
         ensures hands { IsNone result → self.new.worker.batch.items ≡ [] }
         ensures settled { OwesNothing self.new.worker }
     {
         let place = self.place();
         match self.turn(place, interruptions, limit) {
-            Some(runnable) => {
+            Some(due) => {
                 self.worker.pay();
-                Some(runnable)
+                Some(due.hand_out(place))
             }
-            None => self.look_again(place),
+            None => hand_out_if_any(self.look_again(place), place),
         }
     }
 
@@ -255,9 +254,8 @@ impl<'x, R: Wait + Drop + Copy, F: Yields, A: Wake, B: Allocator + Copy, M: Drop
         place: Place<'x, R, F, A, B, M>,
         interruptions: u64,
         limit: &L,
-    ) -> Option<PoolRunnable<'x, R, F, A, B, M>>
-        ensures place { IfSome result (λ runnable. runnable.around.1 ≡ place.entry.1) }
-        ensures first { ComesFirst (λ queued runnable. runnable.inner ≡ queued.inner) self.old.worker.batch.items result self.new.worker.batch.items }
+    ) -> Option<DueRunnable<R, F, A, M>>
+        ensures first { ComesFirst (λ queued taken. taken ≡ queued) self.old.worker.batch.items result self.new.worker.batch.items }
         ensures hands { IsNone result → self.new.worker.batch.items ≡ [] }
         ensures owes { IsSome result → OwesNothing self.new.worker }
     {
@@ -267,7 +265,7 @@ impl<'x, R: Wait + Drop + Copy, F: Yields, A: Wake, B: Allocator + Copy, M: Drop
         }
         self.count = self.count.wrapping_add(1);
         let woke = wake_posted(place);
-        let next = self.find(place);
+        let next = self.find();
         if next.is_none() && !woke && !collect(place) {
             self.rest_within(interruptions, limit);
         }
@@ -280,17 +278,14 @@ impl<'x, R: Wait + Drop + Copy, F: Yields, A: Wake, B: Allocator + Copy, M: Drop
         ensures hands { IsNone result → self.new.worker.batch.items ≡ [] }
         ensures settled { OwesNothing self.new.worker }
     {
+        let place = self.place();
         let next = self.await_within(&NoLimit);
         self.worker.pay();
-        next
+        hand_out_if_any(next, place)
     }
 
     // As `await_next`, but `None` also where the limit is over. The worker may owe something then.
-    pub(crate) fn await_within<L: Limit>(
-        &mut self,
-        limit: &L,
-    ) -> Option<PoolRunnable<'x, R, F, A, B, M>>
-        ensures place { IfSome result (λ runnable. runnable.around.1 ≡ self.old.worker.number) }
+    pub(crate) fn await_within<L: Limit>(&mut self, limit: &L) -> Option<DueRunnable<R, F, A, M>>
         ensures hands { IsNone result → self.new.worker.batch.items ≡ [] }
         ensures owes { IsSome result → OwesNothing self.new.worker }
     {
@@ -304,31 +299,43 @@ impl<'x, R: Wait + Drop + Copy, F: Yields, A: Wake, B: Allocator + Copy, M: Drop
                 return None;
             }
             let finishes = pool.stage.is_finishing();
-            let next = if finishes {
-                self.take_last_turn(place)
-            } else {
-                self.turn(place, interruptions, limit)
-            };
-            if next.is_some() || (finishes && pool.is_finished().is_some()) || limit.is_over() {
-                return next;
+            if let Some(due) = self.turn_or_last(place, interruptions, limit, finishes) {
+                return Some(due);
+            }
+            if (finishes && pool.is_finished().is_some()) || limit.is_over() {
+                return None;
             }
         }
         unreachable!()
     }
 
-    // As a turn, but it frees what keys left each time, and never rests: a turn of a pool that finishes.
-    fn take_last_turn(
+    // A turn, or a last one where the pool finishes.
+    fn turn_or_last<L: Limit>(
         &mut self,
         place: Place<'x, R, F, A, B, M>,
-    ) -> Option<PoolRunnable<'x, R, F, A, B, M>>
-        ensures place { IfSome result (λ runnable. runnable.around.1 ≡ place.entry.1) }
-        ensures first { ComesFirst (λ queued runnable. runnable.inner ≡ queued.inner) self.old.worker.batch.items result self.new.worker.batch.items }
+        interruptions: u64,
+        limit: &L,
+        finishes: bool,
+    ) -> Option<DueRunnable<R, F, A, M>>
+        ensures hands { IsNone result → self.new.worker.batch.items ≡ [] }
+        ensures owes { IsSome result → OwesNothing self.new.worker }
+    {
+        if finishes {
+            self.take_last_turn(place)
+        } else {
+            self.turn(place, interruptions, limit)
+        }
+    }
+
+    // As a turn, but it frees what keys left each time, and never rests: a turn of a pool that finishes.
+    fn take_last_turn(&mut self, place: Place<'x, R, F, A, B, M>) -> Option<DueRunnable<R, F, A, M>>
+        ensures first { ComesFirst (λ queued taken. taken ≡ queued) self.old.worker.batch.items result self.new.worker.batch.items }
         ensures hands { IsNone result → self.new.worker.batch.items ≡ [] }
         ensures owes { IsSome result → OwesNothing self.new.worker }
     {
         collect(place);
         wake_posted(place);
-        self.find(place)
+        self.find()
     }
 
     /// Is the worker until the pool is shut down, or has finished: runs each Runnable that `await_next` answers.
@@ -339,8 +346,11 @@ impl<'x, R: Wait + Drop + Copy, F: Yields, A: Wake, B: Allocator + Copy, M: Drop
         ensures settled { OwesNothing self.new.worker }
     {
         let pool = self.pool;
+        let place = self.place();
         for _ in pool.rt.forever() {
-            if !run_if_any(self.await_next()) {
+            let next = self.await_within(&NoLimit);
+            self.worker.pay();
+            if !run_if_any(next, place) {
                 return;
             }
         }
@@ -366,7 +376,7 @@ impl<'x, R: Wait + Drop + Copy, F: Yields, A: Wake, B: Allocator + Copy, M: Drop
             let ends = self.ends();
             match answer {
                 TaskPoll::Pending if !ends => {
-                    run_if_any(self.turn(place, interruptions, &NoLimit));
+                    run_if_any(self.turn(place, interruptions, &NoLimit), place);
                 }
                 answer => return answer,
             }
@@ -385,22 +395,34 @@ impl<'x, R: Wait + Drop + Copy, F: Yields, A: Wake, B: Allocator + Copy, M: Drop
         ends
     }
 
-    // Drops the Runnables that this worker has in its hands, and those that it finds.
+    // Cancels the Runnables that this worker has in its hands, and those that it finds.
     fn cancel_found(&mut self)
         ensures { self.new.worker.batch.items ≡ [] }
     {
         let pool = self.pool;
-        let place = self.place();
         for _ in pool.rt.forever() {
-            match self.find(place) {
-                Some(runnable) => drop(runnable),
+            match self.find() {
+                Some(due) => due.cancel(),
                 None => return,
             }
         }
     }
 }
 
-// Runs the task of a Runnable, where there is one.
+// Hands out what was taken, where there is something, to the loop that asked for it.
+pub(crate) fn hand_out_if_any<'x, R: Wait + Drop + Copy, F: Yields, A: Wake, B: Allocator, M: Drop>(
+    taken: Option<DueRunnable<R, F, A, M>>,
+    place: Place<'x, R, F, A, B, M>,
+) -> Option<PoolRunnable<'x, R, F, A, B, M>>
+    ensures { MatchOption taken (IsNone result) (λ due. IsSomeAnd result (λ runnable. (runnable.inner ≡ due.parked.inner) × (runnable.around ≡ place.entry))) }
+{
+    match taken {
+        Some(due) => Some(due.hand_out(place)),
+        None => None,
+    }
+}
+
+// Runs the task of a Runnable on the worker of a place, where there is one.
 pub(crate) fn run_if_any<
     'x,
     R: Wait + Drop + Copy,
@@ -408,14 +430,14 @@ pub(crate) fn run_if_any<
     A: Wake,
     B: Allocator + Copy,
     M: Drop,
->(runnable: Option<PoolRunnable<'x, R, F, A, B, M>>) -> bool
+>(taken: Option<DueRunnable<R, F, A, M>>, place: Place<'x, R, F, A, B, M>) -> bool
 where
     F: Future<PoolWaker<'x, R, F, A, B, M>>,
-    ensures { IsTrue result ↔ IsSome runnable.entry }
+    ensures { IsTrue result ↔ IsSome taken }
 {
-    match runnable {
-        Some(runnable) => {
-            runnable.run();
+    match taken {
+        Some(due) => {
+            due.run(place);
             true
         }
         None => false,

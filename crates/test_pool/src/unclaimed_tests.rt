@@ -1,4 +1,4 @@
-//! Tests of what no clause says of a worker: when a thief takes, where what it took stands, when a search ends, and what becomes of an interruption that it has heard.
+//! Tests of what no clause says of a worker: when a thief takes, where what it took stands, when a search ends, and what becomes of an interruption that it has heard; and of what a crew has as it ends.
 
 use std::alloc::Global;
 use std::process::Abort;
@@ -35,6 +35,25 @@ fn a_stolen_batch_stays_with_the_thief(rt: HostRuntime) {
     let queued = (crew.pop(&rt, 0), crew.pop(&rt, 1), crew.pop(&rt, 2));
     drop(crew.end_turns(&rt, thief));
     assert!(rt; pushed && found == Some(1) && queued == (Some(2), Some(6), None));
+}
+
+// How many items each queue of the crew has as it ends, two digits each.
+fn counts_at_the_end(crew: Crew<u64>) -> usize {
+    let mut counts = 0usize;
+    let mut queues = crew.close();
+    while let Some(items) = queues.take_queue() {
+        counts = counts.saturating_mul(100).saturating_add(items.len());
+    }
+    queues.free();
+    counts
+}
+
+// Ten stand at worker 1, and one came from outside.
+#[test]
+fn a_crew_that_ends_hands_out_what_its_queues_have(rt: HostRuntime) {
+    let crew = crew_of(&rt, rt.alloc(), 2);
+    let pushed = push_ten(&rt, &crew) && crew.push(&rt, 2, 11).is_ok();
+    assert!(rt; pushed && counts_at_the_end(crew) == 1001);
 }
 
 // How many nanoseconds worker 0 takes to find an item that stands in this queue.

@@ -1,4 +1,5 @@
 pub mod Board
+pub mod Closing
 pub mod Duties
 pub mod Rooms
 pub mod Settled

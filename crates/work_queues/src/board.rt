@@ -6,6 +6,7 @@ ghost use mathlib.Core.Option.{some};
 ghost use lib.ListN.{get_elem?};
 ghost use Rattle.work_queues.specs.Sleep.{padding};
 
+mod closing;
 mod looks;
 mod queues;
 mod reserving;
@@ -15,6 +16,7 @@ use crate::queue::Queue;
 use crate::room::Room;
 use crate::rule::Order;
 use atomic_table::Table;
+pub use closing::ClosedBoard;
 pub(crate) use looks::pause;
 pub use reserving::Reserved;
 use std::alloc::{Allocator, Global};
@@ -41,7 +43,7 @@ pub struct AllVisited {
     next: usize,
 }
 
-/// A queue for each worker, and one more for what comes from outside. `A` is where the queues take their memory. The items are dropped with it.
+/// A queue for each worker, and one more for what comes from outside. `A` is where the queues take their memory. Items with `Drop` are dropped with it, and others come out by `close`.
 #[derive(Drop)]
 pub struct Board<T, A: Allocator = Global> {
     table: Table<Queue<T, A>, Room, Bells, Order, Global>,

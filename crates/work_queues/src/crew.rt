@@ -1,5 +1,5 @@
 //! What the workers of a pool share: their queues and their bells.
-ghost use Rattle.std.specs.Prelude.{◌≡◌, ◌<◌, ◌≤◌, ◌++◌, ◌↔◌, List, [], min, max, IfOk};
+ghost use Rattle.std.specs.Prelude.{◌≡◌, ◌+◌, ◌<◌, ◌≤◌, ◌++◌, ◌↔◌, List, [], min, max, IfOk};
 ghost use Rattle.std.specs.Arc.{arc_value};
 ghost use Rattle.std.specs.VecDeque.{deque_capacity};
 
@@ -9,14 +9,14 @@ mod resting;
 mod worker;
 
 use crate::bells::Bells;
-use crate::board::Board;
+use crate::board::{Board, ClosedBoard};
 use crate::settings::Settings;
 use std::alloc::{AllocError, Allocator, Global};
 use std::collections::VecDeque;
 use std::sync::{Arc, Wait};
 pub use worker::{Worker, WorkerCounts};
 
-/// The board of a pool and its bells. `A` is where the queues take their memory. The items that are left are dropped with it.
+/// The board of a pool and its bells. `A` is where the queues take their memory. The items that are left are dropped with it; a crew whose items have no `Drop` ends in `close`.
 pub struct Crew<T, A: Allocator = Global> {
     board: Board<T, A>,
     bells: Arc<Bells>,
@@ -48,7 +48,7 @@ pub enum WorkerError {
     NoMemory,
 }
 
-impl<T: Drop, A: Allocator + Copy> Crew<T, A> {
+impl<T, A: Allocator + Copy> Crew<T, A> {
     ghost use Rattle.work_queues.specs.Settled.{OwesNothing};
 
     /// Empty queues for `workers` workers, at least one and at most `MOST_WORKERS`, with room for `room` items in each before it asks `items` for more memory. All else is of `alloc`. An error says that there was no memory.
@@ -95,9 +95,11 @@ impl<T: Drop, A: Allocator + Copy> Crew<T, A> {
             return Err(WorkerError::NoMemory);
         };
         let Ok(bells) = Arc::try_clone(&self.bells) else {
+            batch.destroy_empty();
             return Err(WorkerError::NoMemory);
         };
         let Some(claim) = bells.claim(number) else {
+            batch.destroy_empty();
             return Err(WorkerError::Taken);
         };
         Ok(Worker {
@@ -115,6 +117,8 @@ impl<T: Drop, A: Allocator + Copy> Crew<T, A> {
 }
 
 impl<T, A: Allocator> Crew<T, A> {
+    ghost use Rattle.work_queues.specs.Closing.{queues_left};
+
     /// How many workers it has.
     pub fn workers(&self) -> usize
         ensures { result ≡ (arc_value self.now.bells).workers }
@@ -127,6 +131,19 @@ impl<T, A: Allocator> Crew<T, A> {
         ensures { result.now ≡ self.now.bells }
     {
         &self.bells
+    }
+
+    /// Ends the crew, whose items are left in its queues: `Board::close`.
+    pub fn close(self) -> ClosedBoard<T, A>
+        ensures { queues_left result ≡ (arc_value self.bells).workers + 1 }
+    {
+        let Crew {
+            board,
+            bells,
+            settings: _,
+        } = self;
+        drop(bells);
+        board.close()
     }
 
     /// Ends the turns of this worker, whose number another thread may have from here on. Its batch goes to the back of the queue for what comes from outside, as far as that has room. What it was to look for, another worker does. The answer is what there was no room for.

@@ -31,6 +31,18 @@ impl<T, A: Allocator> Queue<T, A> {
         }
     }
 
+    // The items, in their order. The right to the flag ends.
+    pub(crate) fn into_items(self) -> VecDeque<T, A>
+        ensures { result ≡ self.items }
+    {
+        let Queue {
+            items,
+            flag: _,
+            fillers: _,
+        } = self;
+        items
+    }
+
     /// How many items it has.
     pub fn len(&self) -> usize
         ensures { result ≡ deque_len self.now.items }

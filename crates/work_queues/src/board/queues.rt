@@ -1,11 +1,13 @@
 //! The queues of a board, each under a lock of its own.
 ghost use Rattle.std.specs.Prelude.{◌≡◌, ◌≢◌, ℕ, ◌+◌, ◌*◌, ◌<◌, ◌≤◌, ◌++◌, List, [], ◌∷◌, IfOk, IfErr, IfSome, OnOk, length, slice_index};
 ghost use Rattle.std.specs.Arc.{arc_value};
+ghost use Rattle.std.specs.List.{All};
 ghost use Rattle.std.specs.VecDeque.{deque_capacity};
 ghost use mathlib.Core.Option.{some};
 ghost use lib.ListN.{get_elem?};
 ghost use Rattle.work_queues.specs.Sleep.{worker_word};
 ghost use Rattle.work_queues.specs.Board.{room, HasQueue};
+ghost use Rattle.work_queues.specs.Closing.{IsEmpty};
 ghost use Rattle.work_queues.specs.Duties.{IsStored};
 
 use super::{Board, LOCKED, UNLOCKED, Visit, Visited};
@@ -18,8 +20,24 @@ use std::collections::VecDeque;
 use std::sync::{Arc, Wait};
 use std::thread::yield_now;
 
+// An empty queue with room for `room` items, and the right to its flag.
+fn empty_queue<T, A: Allocator>(
+    items: A,
+    bells: &Bells,
+    number: usize,
+    room: usize,
+) -> Result<Queue<T, A>, AllocError>
+    requires { number ≤ bells.now.workers }
+    ensures stored { IfOk result (IsStored bells.now.table.shared.table_id number) }
+    ensures room { IfOk result (λ queue. deque_capacity queue.items ≡ room) }
+    ensures empty { IfOk result IsEmpty }
+{
+    let flag = bells.take_flag(number).ok_or(AllocError)?;
+    Ok(Queue::new(VecDeque::with_capacity(items, room)?, flag))
+}
+
 // Empty queues with room for `room` items each, and the rights to their flags.
-fn queues<T: Drop, A: Allocator + Copy>(
+fn queues<T, A: Allocator + Copy>(
     alloc: Global,
     items: A,
     bells: &Bells,
@@ -27,16 +45,31 @@ fn queues<T: Drop, A: Allocator + Copy>(
 ) -> Result<Vec<Queue<T, A>>, AllocError>
     ensures count { IfOk result (λ queues. length queues.items ≡ bells.now.workers + 1) }
     ensures each { IfOk result (λ queues. (i : ℕ) (queue : _) → get_elem? queues.items i ≡ some queue → IsStored bells.now.table.shared.table_id i queue × (deque_capacity queue.items ≡ room)) }
+    ensures empty { IfOk result (λ queues. All IsEmpty queues.items) }
 {
-    let mut queues = Vec::new(alloc);
-    for queue in 0..bells.workers() + 1 {
-        let flag = bells.take_flag(queue).ok_or(AllocError)?;
-        queues.push(Queue::new(VecDeque::with_capacity(items, room)?, flag))?;
+    let mut queues = Vec::with_capacity(alloc, bells.workers() + 1)?;
+    for number in 0..bells.workers() + 1 {
+        let Ok(queue) = empty_queue(items, bells, number, room) else {
+            free_empty(queues);
+            return Err(AllocError);
+        };
+        queues.push_reserved(queue);
     }
     Ok(queues)
 }
 
-impl<T: Drop, A: Allocator + Copy> Board<T, A> {
+// Frees the memory of empty queues.
+fn free_empty<T, A: Allocator>(queues: Vec<Queue<T, A>>)
+    requires { All IsEmpty queues.items }
+{
+    let mut queues = queues;
+    while let Some(queue) = queues.pop() {
+        queue.into_items().destroy_empty();
+    }
+    queues.destroy_empty();
+}
+
+impl<T, A: Allocator + Copy> Board<T, A> {
     /// A board with an empty queue for each worker of these bells and one more, and room for `room` items in each before it asks `items` for more memory. All else is of `alloc`. An error says that there was no memory, or that the bells have a board already.
     pub fn new(
         alloc: Global,
@@ -47,11 +80,14 @@ impl<T: Drop, A: Allocator + Copy> Board<T, A> {
         ensures { IfOk result (λ board. arc_value board.bells ≡ arc_value bells) }
     {
         let shared: &Bells = &bells;
-        let queues = queues(alloc, items, shared, room)?;
         let words = vec![in alloc; UNLOCKED; PADDING * (shared.workers() + 1)]?;
+        let queues = queues(alloc, items, shared, room)?;
         match Table::new(alloc, &words, queues, shared) {
             Ok((table, _seat)) => Ok(Board { table, bells }),
-            Err(Refused { slots: _ }) => Err(AllocError),
+            Err(Refused { slots }) => {
+                free_empty(slots);
+                Err(AllocError)
+            }
         }
     }
 }
