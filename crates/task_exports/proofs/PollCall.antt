@@ -39,7 +39,7 @@ finished n p q _ (is_not w e d) = (w, ap not (sym e), d)
 
 -- a party is one of the cell at its place after an export, and after what it did
 pub at_after : (h k : Handle) → IsFull h → Keeps h k → IsAt h.hand.party k
-at_after h k f s = (s.0, s.1, f.1.1 ∙ sym (ap (λ c. c.0) s.2), f.1.2 ∙ sym s.3)
+at_after h k f s = (s.0, s.1, f.1.1 ∙ sym s.2, f.1.2 ∙ sym s.4)
 
 pub at_then : (p q : CellParty) (k : Handle) (path : List Deed) (at : Position) (held : _) → IsAt p k → DidWith path at held p q → IsAt q k
 at_then p q k path at held x g = (x.0, x.1, g.cell ∙ x.2, limit_is p q path at held g ∙ x.3)
@@ -49,7 +49,7 @@ pub full_there : (p : CellParty) (k : Handle) (path : List Deed) (at : Position)
 full_there p k path at held x g = let y = at_then p k.hand.party k path at held x g in (y.0, (y.1, y.2, y.3))
 
 pub keeps_at : (p : CellParty) (k : Handle) → IsAt p k → Keeps k k
-keeps_at p k x = (x.0, x.1, refl, refl)
+keeps_at p k x = (x.0, x.1, refl, refl, refl)
 
 -- what an option holds
 abbrev held_or : {X : Type 0} → X → Option X → X

@@ -1,6 +1,6 @@
 -- What the parts of a run come to, put together from its exports.
 use Rattle.std.proofs.Common.{◌≡◌, ℕ, Bool, true, false, List, [], ◌∷◌, ◌++◌, Option, Some, None, if◌then◌else◌, refl, sym, subst}
-use Rattle.std.specs.Prelude.{IfSome, nat_eq}
+use Rattle.std.specs.Prelude.{IfSome, is_some, nat_eq}
 use Rattle.task_exports.specs.Unknown.{unknown}
 use Rattle.task_core.specs.Word.{State}
 use Rattle.task_core.specs.declared.acts.Act.{Act}
@@ -17,9 +17,9 @@ use Rattle.task_exports.proofs.EndsCall.{IsEmptier}
 use Rattle.task_exports.proofs.Numbers.{differs, joined}
 use Rattle.task_exports.specs.Answers.{Completed, Finishes, GivesBack, GoesOn, Pends, Starts, empties}
 use Rattle.task_exports.specs.Answers as answers
-use Rattle.task_exports.specs.CallPaths.{Done, EndsTaken, ends_taken}
+use Rattle.task_exports.specs.CallPaths.{Done, EndsTaken, ends_taken, hands_on as hands_on_by}
 use Rattle.task_exports.specs.Hands.{IsGone, IsLive}
-use Rattle.task_exports.specs.Parties.{CellParty}
+use Rattle.task_exports.specs.Parties.{CellParty, party_in}
 use Rattle.task_exports.specs.declared.hand.Hand.{Hand}
 use Rattle.task_exports.specs.declared.hand.Record.{Record}
 use Rattle.task_laws.specs.declared.positions.Answer.TheVariants.{Ran}
@@ -244,6 +244,14 @@ module _ (Woken : Type 0) where
       Cleared p q = (w : State) × (rest : List Deed) × (w.closed ≡ true) × RestPath Woken w.awaiter rest × Did (row EndClosed w ∷ rest) as_ended p q
 
       module _ (x k : Hand) where
+        -- a record comes with these answers alone
+        pub comes_with : (o : Option Hand) (n : ℕ) → Pends x k (party_in o) n → is_some o ≡ hands_on_by n
+        comes_with None _ answers.pend_missed = refl
+        comes_with None _ (answers.closed y live d) = refl
+        comes_with None _ (answers.idle w a b c gone d) = refl
+        comes_with (Some e) _ (answers.woken w ended a b live at d) = refl
+        comes_with (Some e) _ (answers.orphaned w ended a b c live at d) = refl
+
         pub hands_on : (ended : CellParty) (n : ℕ) → Pends x k (Some ended) n → IsLive k × Stands as_runnable k.party × (Scheduled (nat_eq n 11) → Pended (nat_eq n 11) x.party ended)
         hands_on _ _ (answers.woken w ended a b live at d) = (live, at, λ fact. (_, paths.woken_meanwhile w a b fact, (tt, (tt, (tt, (tt, tt)))), d))
         hands_on _ _ (answers.orphaned w ended a b c live at d) = (live, at, λ fact. (_, paths.orphaned w a b c fact, (tt, (tt, (tt, (tt, tt)))), d))

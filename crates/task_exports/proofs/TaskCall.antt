@@ -1,5 +1,5 @@
 -- What the parts of a detach and of a spawn come to, put together from their exports.
-use Rattle.std.proofs.Common.{◌≡◌, ℕ, true, false, List, [], ◌∷◌, ◌++◌, Some, None, refl, ap}
+use Rattle.std.proofs.Common.{◌≡◌, ℕ, true, false, List, [], ◌∷◌, ◌++◌, Option, Some, None, refl, ap, is_some}
 use Rattle.task_core.specs.Word.{State}
 use Rattle.task_core.specs.declared.acts.Act.{Act}
 use Rattle.task_core.specs.declared.acts.Act.TheVariants.{Detach, DetachLast, DropOutput, EmptySlots, EndCall, GiveUpOutput}
@@ -10,9 +10,9 @@ use Rattle.task_cell.specs.TaskPaths as paths
 use Rattle.task_exports.proofs.EndsCall.{IsEmptier}
 use Rattle.task_exports.proofs.Numbers.{differs}
 use Rattle.task_exports.specs.Answers.{IsFull, Made, empties, made, refused}
-use Rattle.task_exports.specs.CallPaths.{Done}
+use Rattle.task_exports.specs.CallPaths.{Done, hands_on}
 use Rattle.task_exports.specs.Hands.{IsGone, IsLive, SameCell}
-use Rattle.task_exports.specs.Parties.{CellParty}
+use Rattle.task_exports.specs.Parties.{CellParty, party_in}
 use Rattle.task_exports.specs.TaskAnswers.{Detaches, EndsDetach}
 use Rattle.task_exports.specs.TaskAnswers as answers
 use Rattle.task_exports.specs.declared.hand.Hand.{Hand}
@@ -49,6 +49,14 @@ module _ (Scheduled : Type 0) (did : Act → Type 0) where
   Detached p q = (path : List Deed) × DetachPath Scheduled path × Done did path × Did path as_ended p q
 
   module _ (x k : Hand) where
+    -- a record comes with one answer alone
+    pub detach_comes_with : (o : Option Hand) (n : ℕ) → Detaches x k (party_in o) n → is_some o ≡ hands_on n
+    detach_comes_with None _ answers.detach_missed = refl
+    detach_comes_with None _ (answers.is_shared w f gone d) = refl
+    detach_comes_with None _ (answers.is_last w z f b d) = refl
+    detach_comes_with None _ (answers.is_unclaimed w z f o b d) = refl
+    detach_comes_with (Some e) _ (answers.is_orphaned w ended f d b at) = refl
+
     -- by its answer: the Runnable is to be scheduled
     pub detach_hands_on : (ended : CellParty) (n : ℕ) → Detaches x k (Some ended) n → IsLive k × Stands as_runnable k.party × (Scheduled → Detached x.party ended)
     detach_hands_on _ _ (answers.is_orphaned w ended f d b at) = (b.0, at, λ fact. (_, paths.is_orphaned w f fact, (tt, (tt, (tt, tt))), d))

@@ -21,7 +21,7 @@ use Rattle.task_cell.specs.RunPaths.{NotifyPath}
 use Rattle.task_cell.specs.Starts.{TakesUp}
 use Rattle.task_exports.specs.Unknown.{unknown}
 use Rattle.task_cell.specs.WakerPaths.{GainPath, TaskWakePath}
-use Rattle.task_exports.specs.Hands.{IsLive, IsGone, SameCell}
+use Rattle.task_exports.specs.Hands.{IsLive, IsGone, IsRecordOf, SameCell}
 use Rattle.task_exports.specs.Parties.{CellParty}
 use Rattle.task_exports.specs.declared.hand.Hand.{Hand}
 use Rattle.task_exports.specs.declared.handle.Handle.{Handle}
@@ -112,7 +112,7 @@ pub data Discarded (x k : Hand) : Option ℕ → ℕ → Type 0 where
 -- what a call by reference in the cell of x has left of itself: a party that was lent for it, and did this and nothing else
 abbrev pub Records : List Deed → Hand → Hand → Type 0
 Records path x k =
-    IsGone k × (k.party.seat.block ≡ x.share.maybe.id) × (k.party.seat.me ≡ (view x.share.maybe.key.limit (member as_lent (after path []) ∷ []), []))
+    IsRecordOf x k × (k.party.seat.block ≡ x.share.maybe.id) × (k.party.seat.me ≡ (view x.share.maybe.key.limit (member as_lent (after path []) ∷ []), []))
 
 -- a wake: 10, a Runnable is to be scheduled; 12, there is none
 pub data Wakes (x k : Hand) : ℕ → Type 0 where

@@ -15,4 +15,4 @@ pub give_back-requires-clause-party : goal.give_back-requires-clause-party
 give_back-requires-clause-party c = (Nothing, stands _ _ _ _ _ (woken_at OfDrop _ _ _ c.requires.party.1 c.note_woken.ensures))
 
 pub returns : goal.returns
-returns c = gives_on (act WakeAwaiter ∷ []) [] _ _ _ _ _ _ (woken_at OfDrop _ _ _ c.requires.party.1 c.note_woken.ensures) c.give_back.ensures
+returns c = gives_on (act WakeAwaiter ∷ []) [] _ _ _ _ _ _ (woken_at OfDrop _ _ _ c.requires.party.1 c.note_woken.ensures) c.give_back.ensures.path
