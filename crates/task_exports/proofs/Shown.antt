@@ -1,5 +1,6 @@
 -- The bits of a share are read through a `&` to it.
-use Rattle.task_exports.proofs.LentWalks.{ !, List, [], ◌∷◌, refl, ftrue, fat, flft, ty_ptr, Val, ent, sep, Logic, Ura, ‵, ◌⊛◌, ◌$◌, ◌∵◌, qed, done, move, keep, drop, use1, split, rewrite, fsplit, feq_i, feq_l, ℕ, Item, Fml, Lft, Share, sem, Ptr, RawPtr, ptr_val, rawptr_Tells, shared_of}
+use Rattle.task_exports.proofs.LentWalks.{ !, List, [], ◌∷◌, refl, ◌≡◌, id⊢, ftrue, fat, flft, ty_ptr, Val, ent, sep, Logic, Ura, ‵, ◌⊛◌, ◌$◌, ◌∵◌, qed, done, move, keep, drop, use1, split, rewrite, fsplit, feq_i, feq_l, ℕ, Item, Fml, Lft, Share, sem, Ptr, RawPtr, ptr_val, rawptr_Tells, shared_of}
+use Rattle.std.proofs.Common.{◌+◌, arith}
 use denote.Copied.{plain_Copied}
 use denote.Memory.{cell_at, hidden_shr, part_at}
 use denote.Opens.{Shut, hide}
@@ -21,7 +22,8 @@ module _ {M : Type 1} {𝓤 : Ura M} (𝓛 : Logic 𝓤) (κ : Lft) (x : Lent) (
   pub shows_bits : ent 𝓤 (sem 𝓛 shown) (sep 𝓤 (sem 𝓛 (hidden_shr RawPtr κ x.share.block.at b o)) (sem 𝓛 shown))
   shows_bits =
       qed 𝓛 (‵ shown ∷ []) ∵ use1 𝓛 (‵ shown ⊛ ‵ shown) (contraction 𝓛 (shared_of Row x b o) (laws.shr_laws x b o) κ) $ split ! $
-      fsplit ! $ fsplit ! $ fsplit ! $ fsplit ! $ fsplit ! $ fsplit ! $ fsplit ! $ hide ! $ keep ! (0 ∷ 8 ∷ []) $ done !
+      fsplit ! $ fsplit ! $ fsplit ! $ fsplit ! $ fsplit ! $ fsplit ! $ fsplit ! $ hide ! $ use1 𝓛 (‵ (hidden_shr RawPtr κ x.share.block.at b (((o + 0) + 0) + 0))) (id⊢ 𝓤 _) $ let e : ((o + 0) + 0) + 0 ≡ o = omega arith in
+      rewrite ! 0 (λ (n : ℕ). ‵ (hidden_shr RawPtr κ x.share.block.at b n)) e refl $ keep ! (0 ∷ 8 ∷ []) $ done !
 
 module _ {M : Type 1} {𝓤 : Ura M} {𝓛 : Logic 𝓤} {K : Type 0} {Γ : List (Item 𝓤)} {G : Goal 𝓤 𝓛.H} where
   -- a pointer is opened, from what shows a `&` to it

@@ -51,7 +51,7 @@ module _ (Scheduled : Type 0) (did : Act → Type 0) where
   module _ (x k : Hand) where
     -- a record comes with one answer alone
     pub detach_comes_with : (o : Option Hand) (n : ℕ) → Detaches x k (party_in o) n → is_some o ≡ hands_on n
-    detach_comes_with None _ answers.detach_missed = refl
+    detach_comes_with None _ (answers.detach_missed _) = refl
     detach_comes_with None _ (answers.is_shared w f gone d) = refl
     detach_comes_with None _ (answers.is_last w z f b d) = refl
     detach_comes_with None _ (answers.is_unclaimed w z f o b d) = refl
@@ -63,14 +63,14 @@ module _ (Scheduled : Type 0) (did : Act → Type 0) where
 
     -- .. the call has ended
     pub detach_over : (n : ℕ) → Detaches x k None n → n ≡ 1 → IsGone k × Stands as_ended k.party × Detached x.party k.party
-    detach_over _ answers.detach_missed e = differs 0 1 refl refl e
+    detach_over _ (answers.detach_missed _) e = differs 0 1 refl refl e
     detach_over _ (answers.is_shared w f gone d) e = (gone, stands _ _ _ _ _ d, (_, paths.is_shared w f, (tt, (tt, tt)), d))
     detach_over _ (answers.is_last w z f b d) e = differs 9 1 refl refl e
     detach_over _ (answers.is_unclaimed w z f o b d) e = differs 5 1 refl refl e
 
     -- .. it was the last handle
     pub detach_last : (n : ℕ) → Detaches x k None n → n ≡ 9 → IsLive k × IsEmptier false k.party × ((q : CellParty) → Did (empties false) as_ended k.party q → Detached x.party q)
-    detach_last _ answers.detach_missed e = differs 0 9 refl refl e
+    detach_last _ (answers.detach_missed _) e = differs 0 9 refl refl e
     detach_last _ (answers.is_shared w f gone d) e = differs 1 9 refl refl e
     detach_last _ (answers.is_last w z f b d) e = (
       b.0,
@@ -82,7 +82,7 @@ module _ (Scheduled : Type 0) (did : Act → Type 0) where
     -- .. nobody has claimed the output
     pub detach_unclaimed : (n : ℕ) → Detaches x k None n → n ≡ 5
         → IsLive k × ((z : _) × StandsWith OutputCloser (work_first z []) k.party) × (saw_closed (deeds k.party) ≡ true) × (did DropOutput → (q : CellParty) → Rests k.party q → Detached x.party q)
-    detach_unclaimed _ answers.detach_missed e = differs 0 5 refl refl e
+    detach_unclaimed _ (answers.detach_missed _) e = differs 0 5 refl refl e
     detach_unclaimed _ (answers.is_shared w f gone d) e = differs 1 5 refl refl e
     detach_unclaimed _ (answers.is_last w z f b d) e = differs 9 5 refl refl e
     detach_unclaimed _ (answers.is_unclaimed w z f o b d) e = (b.0, (z, stands _ _ _ _ _ d), ap (λ m. saw_closed (head_of m.0.members).deeds) d.is, λ fact q g. drops_it fact q g.0 g.1 g.2)

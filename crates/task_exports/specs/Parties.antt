@@ -35,7 +35,9 @@ Stays x y = (y.share.maybe.there ≡ true) × SameBits x y × (y.share.maybe.val
 
 -- .. and lies in the place as before
 abbrev pub Keeps : Handle → Handle → Type 0
-Keeps h k = (k.there ≡ true) × Stays h.hand k.hand
+Keeps h k =
+    (k.there ≡ true) × (k.hand.share.maybe.there ≡ true) × SameBits h.hand k.hand × (k.hand.share.maybe.value ≡ h.hand.share.maybe.value)
+    × (limit_at k.hand ≡ limit_at h.hand)
 
 -- the party is one of the cell whose share lies in the place
 abbrev pub IsAt : CellParty → Handle → Type 0

@@ -67,11 +67,9 @@ pub fn lose(answer: Ends)
 {
     let Ends {
         number: _,
-        left,
-        brought,
+        left: Left {},
+        brought: Brought {},
     } = answer;
-    let Left {} = left;
-    let Brought {} = brought;
 }
 
 /// The handle at `h`, for an export that gets it by its bits. The place is room meanwhile.
@@ -137,6 +135,10 @@ pub fn end(h: &mut Handle, address: Address, answer: Ends) -> (u32, Option<Hand>
         brought,
     } = answer;
     let number = back(h, address, Answer { number, left });
-    let ended = fetch_if(h, brought, (number == SCHEDULE) | (number == SCHEDULE_WOKEN));
+    let ended = fetch_if(
+        h,
+        brought,
+        (number == SCHEDULE) | (number == SCHEDULE_WOKEN),
+    );
     (number, ended)
 }

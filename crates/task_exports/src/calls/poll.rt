@@ -178,12 +178,7 @@ fn looked(answer: u32) -> Option<u32>
 }
 
 // Puts the clone into the awaiter's place, drops an older one, and looks again: what that answers.
-fn store<A: Wake, C: Caller<A>>(
-    h: &mut Handle,
-    old: u32,
-    clone: A,
-    caller: &mut C,
-) -> Option<u32>
+fn store<A: Wake, C: Caller<A>>(h: &mut Handle, old: u32, clone: A, caller: &mut C) -> Option<u32>
     requires handle { IsFull h.old }
     requires party { (i : ℕ) × HasStored i (nat_eq old 1) h.old.hand.party }
     ensures handle { IfSome result (λ _. Keeps h.old h.new) }

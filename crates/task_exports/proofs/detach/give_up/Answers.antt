@@ -12,7 +12,7 @@ use Rattle.task_cell.specs.Belongs.{values_in}
 use Rattle.task_exports.proofs.detach.give_up.Goals as goal
 
 pub returns-in-Err-clause-path : goal.returns-in-Err-clause-path
-returns-in-Err-clause-path c = detach_missed
+returns-in-Err-clause-path c = detach_missed c.in-Err.ensures.missed
 
 pub returns-in-Shared-clause-path : goal.returns-in-Shared-clause-path
 returns-in-Shared-clause-path c = shared_so (values_in c.share-share.result) c.args.hand _ (subst (λ f. DetachesRow (values_in c.share-share.result) c.args.hand.party c.give_task_up_some.new.party f) c.in-Shared.is c.in-Ok.ensures.path) (c.in-Ok.ensures.share.is_there ∙ ap (λ f. not (ends_task f)) c.in-Shared.is)

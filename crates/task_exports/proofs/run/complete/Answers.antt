@@ -1,3 +1,5 @@
+use Rattle.std.specs.Prelude.{IfNone, ◌-◌, ◌^◌}
+use Rattle.task_steps.specs.Attempts.{HasMissed}
 use Rattle.task_cell.proofs.Vocabulary.{◌∙◌, sym, ap, subst, refl, ◌∷◌, [], false, Bool, if◌then◌else◌, IfSome, OfRun, Ran, ReadyFutureDropped, AnswerReady, DropFuture, Completes, Stands, notifies, act, work_first, Some, None}
 use Rattle.task_cell.proofs.Moved.{stands, did_then}
 use Rattle.task_exports.specs.Answers.{GoesOn, complete_missed}
@@ -40,7 +42,7 @@ returns-then-keeps_output-clause-path c = let s = c.requires.party in let a = c.
     completed_keeps _ m _ _ _ _ g d keep (subst (λ b. GoesOn OfRun b [] m c.go_on.result.0 c.go_on.result.1) c.awaiter-due.ensures (c.go_on.ensures.path OfRun (Ran false, refl) t))
 
 pub returns-in-None-clause-path : goal.returns-in-None-clause-path
-returns-in-None-clause-path c = complete_missed
+returns-in-None-clause-path c = complete_missed (subst (λ o. IfNone o (HasMissed (2 ^ 64 - 1) c.complete_some-completed.new.party.seat.me)) c.in-None.is c.complete_some-completed.ensures.missed)
 
 pub returns-then-due-clause-path : goal.returns-then-due-clause-path
 returns-then-due-clause-path c = let s = c.requires.party in let a = c.answer_ready.ensures (work_first s.0 []) s.1 in let x = c.take.ensures ReadyFutureDropped s.0 [] (stands _ _ _ _ _ a) in

@@ -62,7 +62,7 @@ returns-in-Ok-Err-clause-path c = let s = c.requires.party in let x = by_end _ _
     closed s.0 (lives_kept c.args.hand.share c.into_maybe-share-in-Ok-Err.result c.share-share.result c.in-Ok-Err.kept c.args.hand.party _ _ _ _ c.requires.hand c.share-share.ensures same c.into_maybe-share-in-Ok-Err.ensures x) x
 
 pub returns-in-Err-clause-path : goal.returns-in-Err-clause-path
-returns-in-Err-clause-path c = pend_missed
+returns-in-Err-clause-path c = pend_missed c.in-Err.ensures.missed
 
 pub returns-then-closed-clause-bits : goal.returns-then-closed-clause-bits
 returns-then-closed-clause-bits c = λ _. c.into_maybe-share.ensures.cell.0 ∙ c.share-share.ensures.0

@@ -1,3 +1,5 @@
+use Rattle.std.specs.Prelude.{IfNone, ◌-◌, ◌^◌}
+use Rattle.task_steps.specs.Attempts.{HasMissed}
 use Rattle.task_cell.proofs.Vocabulary.{◌∙◌, subst, true, false, Some, IfSome, TakesUp, None}
 use Rattle.task_exports.specs.Answers.{start_missed, polls, finds_closed}
 use Rattle.task_exports.proofs.Runs.{taken_up}
@@ -15,7 +17,7 @@ returns-in-Some-false-clause-path c = let t = subst (λ b. TakesUp (values_in c.
     finds_closed (taken_up c.args.hand.share c.into_maybe-share.result c.share-share.result c.args.hand.party c.take_up_some-started.new.party _ c.requires.hand c.share-share.ensures c.into_maybe-share.ensures t) (takes_up_unknown _ _ _ t)
 
 pub returns-in-None-clause-path : goal.returns-in-None-clause-path
-returns-in-None-clause-path c = start_missed
+returns-in-None-clause-path c = start_missed (subst (λ o. IfNone o (HasMissed (2 ^ 64 - 1) c.take_up_some-started.new.party.seat.me)) c.in-None.is c.take_up_some-started.ensures.missed)
 
 pub returns-in-Some-true-clause-bits : goal.returns-in-Some-true-clause-bits
 returns-in-Some-true-clause-bits c = c.into_maybe-share.ensures.cell.0 ∙ c.share-share.ensures.0

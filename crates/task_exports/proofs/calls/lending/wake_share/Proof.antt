@@ -14,7 +14,9 @@ use Rattle.task_exports.proofs.calls.lending.wake_share.Statement.{statement}
 use Rattle.task_exports.proofs.calls.lending.wake_share.Code as code
 use Rattle.task_exports.specs.contracts.lent.async_task_wake as g
 use Rattle.task_exports.proofs.lent.async_task_wake.Met.{met}
+use denote.RattleType.{owns}
 use denote.RawPtr.{block_ptr}
+use denote.Signature.{types_at}
 
 abbrev stayed : Stays f.ended.signature.params f.ended.kept
 stayed = (stay_dropped (RefOf (0 ∷ []) tt (plain (λ _. Row)) (λ _. tt)) yes, tt)
@@ -31,8 +33,8 @@ wake_share_spec 𝓤 𝓛 𝓜 𝓡 wired =
     let κ : Lft = κs.0 in let q : Share = qs.0 in let b = a.0.ref_ptr.0 in let o = a.0.ref_ptr.1 in let x : Lent = a.0.now in let p : Ptr = x.share.block.at in
     let y : W.Ghost = ((κs, qs, bounds, a, (shr_vals a.0, tt)), tt) in
     let p_typed = ((rawptr_Lawful 𝓛).typed p (ptr_val p ∷ []) refl).0 in
-    qed 𝓛 (((‵ (flft κ q) ⊛ ‵ ftrue) ⊛ ‵ ((RefOf (0 ∷ []) tt (plain (λ _. Row)) (λ _. tt)).row κs).own_val a.0 (shr_vals a.0) ⊛ ‵ ftrue) ∷ ‵ ftrue ∷ []) ∵
-    split ! $ split ! $ move ! (2 ∷ []) $ split ! $ fsplit ! $ keep ! (1 ∷ 3 ∷ []) $
+    qed 𝓛 (((‵ (flft κ q) ⊛ ‵ ftrue) ⊛ ‵ (owns (types_at f.ended.signature.params κs) a y.0.4)) ∷ ‵ ftrue ∷ []) ∵
+    split ! $ split ! $ move ! (2 ∷ []) $ fsplit ! $ fsplit ! $ keep ! (1 ∷ 3 ∷ []) $
     -- [what a `&` has; the token]
     enter ! _ _ _ _ _ $ alloc_all ! (λ l. pass_all ! refl ((tt, tt), tt) $
     sets ! (addr ! (through ! refl (stop !))) refl (tt, tt) $ sets ! (of_opd ! (get ! refl)) refl (tt, tt) $

@@ -1,7 +1,11 @@
+use Rattle.std.proofs.Common.{sym, subst}
+use Rattle.task_cell.specs.Calls.{Stands}
+use Rattle.task_exports.specs.declared.hand.Hand.{Hand}
+use Rattle.task_laws.specs.declared.positions.Position.TheVariants.{UnusedClone}
 use Rattle.std.proofs.Common.{false, true}
 use Rattle.std.proofs.lemmas.Option.{IfSome_then}
 use Rattle.task_cell.proofs.Moved.{stands}
-use Rattle.task_exports.proofs.Crossing.{crossed, crossed_still, full_after}
+use Rattle.task_exports.proofs.Crossing.{crossed, crossed_still, full_after, live_of}
 use Rattle.task_exports.proofs.Told.{clone_dropped, register}
 use Rattle.task_exports.proofs.PollCall.{found_notifier, stored, storing, woke_caller}
 use Rattle.task_exports.proofs.Released.{keeps_on, keeps_then}
@@ -36,10 +40,10 @@ returns-in-21-clause-path g c = λ i s. let x = storing i _ _ true _ ((crossed r
     (λ a y. stored g.A.Wake.cloned g.A.Wake.woken g.A.Wake.woken_by_ref c.args.awaiter.now g.C.Caller.did i c.args.clone true _ _ _ a c.requires.cloned x c.store-in-21.ensures.fact y)
 
 pub async_task_clone_dropped-requires-clause-handle : goal.async_task_clone_dropped-requires-clause-handle
-async_task_clone_dropped-requires-clause-handle g c = let s = c.requires.party in full_after c.args.h.now c.back.new.h _ _ _ c.requires.handle (crossed_still c.args.h.now c.back.new.h c.lend-bits.ensures.handle.0 c.back.ensures c.async_task_register.ensures.handle) (found_notifier s.0 _ _ _ ((crossed register c.lend-bits.ensures.handle.0 c.back.ensures c.async_task_register.ensures.path) s.0 s.1) c.in-22.is).2
+async_task_clone_dropped-requires-clause-handle g c = let s = c.requires.party in live_of _ _ c.lend-bits-in-22.ensures.handle.0 (full_after c.args.h.now c.back.new.h _ _ _ c.requires.handle (crossed_still c.args.h.now c.back.new.h c.lend-bits.ensures.handle.0 c.back.ensures c.async_task_register.ensures.handle) (found_notifier s.0 _ _ _ ((crossed register c.lend-bits.ensures.handle.0 c.back.ensures c.async_task_register.ensures.path) s.0 s.1) c.in-22.is).2).1
 
 pub async_task_clone_dropped-requires-clause-party : goal.async_task_clone_dropped-requires-clause-party
-async_task_clone_dropped-requires-clause-party g c = let s = c.requires.party in (s.0, stands _ _ _ _ _ (found_notifier s.0 _ _ _ ((crossed register c.lend-bits.ensures.handle.0 c.back.ensures c.async_task_register.ensures.path) s.0 s.1) c.in-22.is).2)
+async_task_clone_dropped-requires-clause-party g c = let s = c.requires.party in (s.0, subst (λ (x : Hand). Stands (UnusedClone s.0) x.party) (sym c.lend-bits-in-22.ensures.handle.0) (stands _ _ _ _ _ (found_notifier s.0 _ _ _ ((crossed register c.lend-bits.ensures.handle.0 c.back.ensures c.async_task_register.ensures.path) s.0 s.1) c.in-22.is).2))
 
 pub returns-in-22-clause-handle : goal.returns-in-22-clause-handle
 returns-in-22-clause-handle g c = keeps_then c.args.h.now c.back.new.h c.back-in-22.new.h (crossed_still c.args.h.now c.back.new.h c.lend-bits.ensures.handle.0 c.back.ensures c.async_task_register.ensures.handle) (crossed_still c.back.new.h c.back-in-22.new.h c.lend-bits-in-22.ensures.handle.0 c.back-in-22.ensures c.async_task_clone_dropped.ensures.handle)

@@ -1,3 +1,4 @@
+use Rattle.std.specs.Prelude.{nat_eq}
 use Rattle.std.proofs.lemmas.Option.{IfSome_then}
 use Rattle.task_cell.proofs.Moved.{stands}
 use Rattle.task_exports.proofs.Crossing.{crossed, crossed_still, full_after}

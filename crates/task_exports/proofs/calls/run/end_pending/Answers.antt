@@ -4,7 +4,7 @@ use Rattle.task_core.specs.declared.acts.Act.TheVariants.{DropFuture}
 use Rattle.task_exports.proofs.RunCall.{Cleared, Pended, comes_with, hands_on, is_cleared, is_idle, stays_so}
 use Rattle.task_exports.specs.Answers.{Pends}
 use Rattle.task_exports.specs.Parties.{party_in}
-use Rattle.std.specs.Prelude.{IfSome}
+use Rattle.std.specs.Prelude.{IfSome, nat_eq}
 use Rattle.task_exports.proofs.Crossing.{crossed_end, of_record}
 use Rattle.task_exports.specs.Hands.{IsRecordOf}
 use Rattle.task_exports.proofs.calls.run.end_pending.Goals as goal
@@ -25,7 +25,7 @@ pub record-requires-clause-party : goal.record-requires-clause-party
 record-requires-clause-party g c = let p = subst (λ r. Pends c.args.h.now.hand c.end-answer.new.h.hand (party_in r) c.end-answer.result.0) c.in-Some.is (crossed_end Pends c.lend-bits.ensures.handle.0 c.end-answer.ensures c.async_task_pending-answer.ensures.path) in stands _ _ _ _ _ ((hands_on ((a : _) × (r : _) × g.A.Wake.woken a r) g.C.Caller.did g.C.Caller.scheduled _ _ _ _ p).2 c.schedule.ensures.fact).3
 
 pub returns-in-Some : goal.returns-in-Some
-returns-in-Some g c = let p = subst (λ r. Pends c.args.h.now.hand c.end-answer.new.h.hand (party_in r) c.end-answer.result.0) c.in-Some.is (crossed_end Pends c.lend-bits.ensures.handle.0 c.end-answer.ensures c.async_task_pending-answer.ensures.path) in subst (λ q. Pended ((a : _) × (r : _) × g.A.Wake.woken a r) g.C.Caller.did g.C.Caller.scheduled _ c.args.h.now.hand.party q) (sym c.record.ensures) ((hands_on ((a : _) × (r : _) × g.A.Wake.woken a r) g.C.Caller.did g.C.Caller.scheduled _ _ _ _ p).2 c.schedule.ensures.fact)
+returns-in-Some g c = let p = subst (λ r. Pends c.args.h.now.hand c.end-answer.new.h.hand (party_in r) c.end-answer.result.0) c.in-Some.is (crossed_end Pends c.lend-bits.ensures.handle.0 c.end-answer.ensures c.async_task_pending-answer.ensures.path) in subst (λ q. Pended ((a : _) × (r : _) × g.A.Wake.woken a r) g.C.Caller.did g.C.Caller.scheduled (nat_eq c.end-answer.result.0 11) c.args.h.now.hand.party q) (sym c.record.ensures) ((hands_on ((a : _) × (r : _) × g.A.Wake.woken a r) g.C.Caller.did g.C.Caller.scheduled _ _ _ _ p).2 c.schedule.ensures.fact)
 
 pub over-requires-clause-gone : goal.over-requires-clause-gone
 over-requires-clause-gone g c = let p = subst (λ r. Pends c.args.h.now.hand c.end-answer.new.h.hand (party_in r) c.end-answer.result.0) c.in-None.is (crossed_end Pends c.lend-bits.ensures.handle.0 c.end-answer.ensures c.async_task_pending-answer.ensures.path) in (is_idle Unit (λ _. Unit) (λ _. Unit) _ _ _ p c.in-1.is).0
