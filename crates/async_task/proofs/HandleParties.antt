@@ -23,7 +23,7 @@ module _ {F T A : Type 0} where
   stands_task p alone placed free = let n = at_task (position p) placed in
       (n.0, stands_alone p (as_task n.0) (alone ∙ ap (λ at. view (limit_of p) (member at (deeds p) ∷ [])) n.1) free)
 
-  -- .. also where the Task stood before
+  -- a party of a Task that is alone on its seat stands where it is, whatever it did
   pub stands_again : (p q : Party F T A) (path : List Deed) (n : ℕ) → Stands (as_task n) p → Did path (position p) p q → Stands (as_task n) q
   stands_again p q path n s g = subst (λ (at : Position). Stands at q) (moved.position_is p (as_task n) [] s) (moved.stands p q path (position p) [] g)
 

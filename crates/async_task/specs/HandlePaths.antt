@@ -52,7 +52,7 @@ module _ {F T A : Type 0} where
       (path : List Deed) × PollPath cloned woken woken_by_ref compared awaiter path answer
       × Did path (as_task (poll_number (position p))) p q
 
-  -- .. before which the task is closed, unless it was by an earlier one
+  -- one poll of the Task before which the task is closed, unless an earlier poll has closed it
   abbrev pub PollsClosed : {U K : Type 0} → Bool → (List Deed → Type 0) → (A → Result A K → Type 0) → (A → K → Type 0) → (A → K → Type 0)
       → (A → A → Bool → Type 0) → A → Party F T A → Party F T A → TaskPoll (Option U) → Type 0
   PollsClosed was_closed Closes cloned woken woken_by_ref compared awaiter p q answer =

@@ -24,7 +24,7 @@ v = gnum 0
 together : (a b c : Share) → c ∈ Share.op a b → ◌∈◌ {α = Share × Gv} (c, v) (halved.op (a, v) (b, v))
 together a b c m = Prod.mk-mem-op Share.op (Ag.op (SetCoded-set (coded itself))) {a = a} {a' = b} {x = c} {b = v} {b' = v} {y = v} m (Ag.idem (SetCoded-set (coded itself)) v)
 
--- a share with so many parts, which is the whole if all are there
+-- a share with this number of parts, which is the whole if all are there
 some_parts : (h : ℕ) → h < 9223372036854775808 → (r : Share) × Free h r
 some_parts h near = by_zero (ℕ_discrete h 0)
   where

@@ -127,7 +127,7 @@ impl<R: Wait + Drop + Copy> Executor<R> {
 
 #[derive(Drop)]
 enum Step {
-    // Gives way so often, and writes its name into the log each time.
+    // Gives way the given number of times, and writes its name into the log each time.
     Count(&'static str, u64),
     // Waits for the message.
     Receive,

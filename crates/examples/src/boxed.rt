@@ -78,7 +78,7 @@ impl<'x, R: Wait + Drop + Copy, T: Step> Future<StepWaker<'x, R, T>> for Tickete
     }
 }
 
-// Wakes a task whose ticket is rung: whether there is one.
+// Wakes a task whose ticket is rung, and answers whether there is one.
 fn wake<R: Wait + Drop + Copy, T: Step>(line: &Steps<R, T>) -> bool {
     let mut waiting = line.shared.0.lock(&line.rt);
     let rung = waiting.iter().position(|(ticket, _)| ticket.0.take());

@@ -108,7 +108,7 @@ impl<'x, R: Wait + Drop + Copy, F: Yields, A: Wake, B: Allocator + Copy, M: Drop
 }
 
 impl<R: Wait + Drop + Copy, F: Yields, A: Wake, M: Drop> Pool<R, F, A, Global, M> {
-    /// A pool of so many workers, at least one and at most `work_queues::bells::MOST_WORKERS`. Its workers do not run yet. `rt` is what its threads wait by, `alloc` where all memory comes from. An error says that there was no memory.
+    /// A pool of `workers` workers, at least one and at most `work_queues::bells::MOST_WORKERS`. Its workers do not run yet. `rt` is what its threads wait by, `alloc` where all memory comes from. An error says that there was no memory.
     pub fn new(rt: R, alloc: Global, workers: usize) -> Result<Pool<R, F, A, Global, M>, AllocError>
         ensures workers { IfOk result (λ pool. (arc_value pool.crew.bells).workers ≡ min (max workers 1) 1024) }
         ensures given { IfOk result (λ pool. (pool.rt ≡ rt) × (pool.alloc ≡ alloc)) }

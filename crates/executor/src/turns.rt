@@ -19,7 +19,7 @@ use std::alloc::{Allocator, Global};
 use std::sync::Wait;
 use work_queues::{Bells, Limit, NoLimit, Worker, WorkerCounts, WorkerError};
 
-/// A worker frees what keys left once in so many turns.
+/// A worker frees what keys left once in this many turns.
 const COLLECTS: u64 = 64;
 
 /// The turns of one worker of a pool: the thread that has them is that worker. No other turns have its number while these live.

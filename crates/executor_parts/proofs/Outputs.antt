@@ -19,7 +19,7 @@ pub if-ok : {T E : Type 0} {P Q : T → Type 0} (answer : Result T E) → IfOk a
 if-ok (Ok value) told follows = follows value told
 if-ok (Err error) told follows = tt
 
--- .. or of its error
+-- the same for the error of an answer
 pub if-err : {T E : Type 0} {P Q : E → Type 0} (answer : Result T E) → IfErr answer P → ((error : E) → P error → Q error) → IfErr answer Q
 if-err (Ok value) told follows = tt
 if-err (Err error) told follows = follows error told

@@ -16,7 +16,7 @@ module _ {T : Type 0} where
   abbrev pub IsNobody : Slab (Entry T) → MemberId → Type 0
   IsNobody members id = generation_at members id.number ≢ Some id.generation
 
-  -- so many have joined, the member of this id among them, and the id refers to nobody
+  -- this many have joined, the member of this id among them, and the id refers to nobody
   pub record IsSpent (joined : ℕ) (members : Slab (Entry T)) (id : MemberId) : Type 0 where
     pub given : id.generation < joined
     pub nobody : IsNobody members id

@@ -17,7 +17,7 @@ use task_core::{Future, Poll, Wake, Yields};
 
 pub(crate) mod messages;
 
-/// The two ends of a channel with room for `bound` messages, which is at least 1. All memory for messages is taken here, and for so many waiters on each side as `waiters` says: further ones ask for it.
+/// The two ends of a channel with room for `bound` messages, which is at least 1. All memory for messages is taken here, and for `waiters` waiters on each side: further ones ask for it.
 ///
 /// `rt` is what its calls take the lock by, `alloc` where its memory comes from. `W` is the waker of the futures that wait. An error says that memory was refused.
 pub fn channel<R: Wait + Drop + Copy, T: Drop, W: Wake>(

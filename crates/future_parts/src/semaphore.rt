@@ -1,4 +1,4 @@
-//! A semaphore: permits for so many at a time, and a line for those who wait.
+//! A semaphore: permits for a number of holders at a time, and a line for those who wait.
 ghost use Rattle.std.specs.Prelude.{◌≡◌, None, Some, true, is_none, IfErr, IfOk, IfSome};
 ghost use Rattle.std.specs.Arc.{arc_value};
 ghost use Rattle.future_parts.specs.Shared.{made_with, AwaitPolled};
@@ -21,7 +21,7 @@ pub struct Semaphore<R: Wait + Drop + Copy, W: Wake> {
 }
 
 impl<R: Wait + Drop + Copy, W: Wake> Semaphore<R, W> {
-    /// A semaphore with so many permits. `rt` is what its calls take the lock by, `alloc` where its memory comes from. Waiters up to `room` need no memory.
+    /// A semaphore with `permits` permits. `rt` is what its calls take the lock by, `alloc` where its memory comes from. Waiters up to `room` need no memory.
     ///
     /// An error says that memory was refused.
     pub fn new(

@@ -40,7 +40,7 @@ module _ {R W E F T : Type 0} (polled : F → W → Poll T → F → Type 0) (cl
   TimeoutPolled (Some old) waker answer new = (waited : Waited F (Sleep R W E)) × BothPolled old waker answer waited × (new ≡ left_of answer waited)
 
 module _ {R W E F : Type 0} where
-  -- the timeout has this future, and a sleep for so long
+  -- the timeout has this future, and a sleep for this time
   abbrev pub IsTimeout : Instant → Duration → F → Option (Waited F (Sleep R W E)) → Type 0
   IsTimeout start duration future None = ⊥
   IsTimeout start duration future (Some waited) = (waited.future ≡ future) × IsAfter start duration waited.sleep.key.when

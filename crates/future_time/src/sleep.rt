@@ -38,7 +38,7 @@ impl<R: Wait + Clock + Drop + Copy, W: Wake> Drop for Sleep<R, W> {
 }
 
 impl<R: Wait + Clock + Drop + Copy, W: Wake> Timers<R, W> {
-    /// A future that is ready once so long a time is over, counted from this call, and the timers were fired.
+    /// A future that is ready once that time is over, counted from this call, and the timers were fired.
     ///
     /// Its memory is asked for here, and its polls need none. An error says that there is no timer.
     pub fn sleep(&self, duration: Duration) -> Result<Sleep<R, W>, TimerError>

@@ -1,4 +1,4 @@
-//! A future that is awaited for so long at most.
+//! A future that is awaited for at most a given time.
 ghost use Rattle.std.specs.Prelude.{◌≡◌, IfOk, IfErr};
 ghost use Rattle.task_core.specs.Poll.{IfReady};
 ghost use Rattle.std.specs.Arc.{arc_value};
@@ -76,7 +76,7 @@ pub struct Timeout<R: Wait + Clock + Drop + Copy, W: Wake, F: Yields> {
 }
 
 impl<R: Wait + Clock + Drop + Copy, W: Wake> Timers<R, W> {
-    /// A future that answers the output of `future`, or an error once so long a time is over, counted from this call. Each poll polls `future` first. At the end the future and the timer are dropped at once.
+    /// A future that answers the output of `future`, or an error once that time is over, counted from this call. Each poll polls `future` first. At the end the future and the timer are dropped at once.
     ///
     /// Its memory is asked for here. Where there is no timer the future is handed back.
     pub fn timeout<F: Yields>(

@@ -133,7 +133,7 @@ impl<R: Wait + Drop + Copy> Handles<R> {
         }
     }
 
-    /// Plays the poll that begins at the word `next`, and moves `next` behind it: whether it answers ready.
+    /// Plays the poll that begins at the word `next`, moves `next` behind it, and answers whether the poll is ready.
     pub fn play_poll<'x>(&'x self, next: &mut usize, lent: &CarriedWaker<'x, R>) -> bool {
         for word in self.polls.iter().skip(*next) {
             *next = next.saturating_add(1);

@@ -76,7 +76,7 @@ impl Stage {
         self.parkers.0.unpark();
     }
 
-    // Takes the calls that come next at a moment, for the next thread: whether there are any.
+    // Takes the calls that come next at a moment, for the next thread, and answers whether there are any.
     fn ask(&self, moment: Moment) -> bool {
         let Some(calls) = self.take_calls(moment) else {
             return false;

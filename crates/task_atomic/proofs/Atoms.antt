@@ -68,7 +68,7 @@ made_row act p put row = grind rules
 made_by_rule : (act : Act) (p : Position) (scene : Scene) → IsMade act p scene (rule scene act p)
 made_by_rule = by_rows IsMade (λ act p scene rests known. tt) made_row
 
--- .. in a machine that a list of steps reaches
+-- the same for a step in a machine that a list of steps reaches
 pub made_at : (m : Machine) (i : ℕ) (p : Position) (act : Act) (left : Outcome) → Invariant m → slice_get m.parties i ≡ Some p → rule (scene m) act p ≡ Some left
     → acted m.limit (act_of act left.next) (small_task m.word) ≡ Some (small_task left.word)
 made_at m i p act left h at is =

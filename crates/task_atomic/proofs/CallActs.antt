@@ -95,7 +95,7 @@ abbrev AllDo : List Position → Type 0
 AllDo [] = Unit {0}
 AllDo (p ∷ ps) = Does p nothing × AllDo ps
 
--- .. of the party that steps
+-- the acts that the party has still to make make those of its call
 abbrev DoesTo : Act → Position → InCall → Option Outcome → Type 0
 DoesTo act p c None = Unit {0}
 DoesTo act p c (Some left) = Does left.next (goes_on act (Some p) (Some left.next) c)
@@ -110,7 +110,7 @@ does_row act p put row = grind rules
 does_by_rule : (act : Act) (p : Position) (scene : Scene) → KeepsDoing act p scene (rule scene act p)
 does_by_rule = by_rows KeepsDoing (λ act p scene c does. tt) does_row
 
--- .. and of those that it adds
+-- the parties that a step adds have still to make the acts of their calls
 abbrev BornTo : Option Outcome → Type 0
 BornTo None = Unit {0}
 BornTo (Some left) = AllDo left.born

@@ -76,7 +76,7 @@ found_at k (x ∷ log) newer d older e = by (eqb x.party k) refl newer e (found_
         let f = rest newer d older e in
         further newer f newer (ap (λ (b : Bool). noted_if b x.deed (deeds_of k f.since)) is ∙ f.later)
 
--- .. and those before it, until the first of them
+-- a party's deeds, found in the interleaving: one, and those before it
 oldest_end : (x : Entry) (later : List Entry) (e : Entry) (earlier : List Entry) → oldest (x ∷ (later ++ e ∷ earlier)) ≡ oldest (e ∷ earlier)
 oldest_end x [] e earlier = refl
 oldest_end x (y ∷ later) e earlier = oldest_end y later e earlier

@@ -41,7 +41,7 @@ is_due : (limit : ℕ) (n : Machine) (i : ℕ) (stack : List ℕ) (cut : Bool) (
 is_due limit n i stack true moves p h here due polls holds = absurd (none_held_stands n.word.completed p (rw here at h.state.good.0) holds)
 is_due limit n i stack false moves p h here due polls holds = subst (IsDue n.word) here (due refl) polls holds
 
--- .. of the innermost call
+-- the step is one of the innermost call
 module _ {n : Machine} {e : Entry} {lent : Bool} {p : Position} {o : Outcome} (x : OneStep n e lent p o) (c : OpenCall) (calls : List OpenCall) (cut : Bool) (is_lent_to is_lent_later : ℕ → Bool)
     (f : Follows n (c ∷ calls) is_lent_to cut) (lends_later : (j : ℕ) → is_lent_later j ≡ lent_at (slice_get (now n e p o).parties j)) (mine : nat_eq e.party c.party ≡ true) where
   same : e.party ≡ c.party
@@ -98,7 +98,7 @@ module _ {n : Machine} {e : Entry} {lent : Bool} {p : Position} {o : Outcome} (x
           (λ g h. ap (λ (k : ℕ). is_open k calls) (same_number j e.parties h) ∙ (right_false (nat_eq e.parties c.party) (is_open e.parties calls) new ∙ sym makes_none))
           (λ g h. sym (no_other (nat_eq j c.party) (is_open j calls) (ap (nat_eq j) (sym same) ∙ g)))
 
-  -- .. or goes on
+  -- the innermost call, if it goes on
   abbrev longer : OpenCall
   longer = record { party = c.party; first = c.first; later = e.deed ∷ c.later }
 
@@ -168,7 +168,7 @@ module _ {n : Machine} {e : Entry} {lent : Bool} {p : Position} {o : Outcome} (x
           (λ g h. ap (λ (k : ℕ). is_open k (c ∷ calls)) (same_number j e.parties h) ∙ (new ∙ sym makes_none))
           (λ g h. refl)
 
--- .. of a party that begins a call
+-- the step is one of a party that begins a call
 stays_open : (k : ℕ) (calls : List OpenCall) → is_open k calls ≡ false → ended k calls ≡ calls
 stays_open k [] e = refl
 stays_open k (c ∷ calls) e = ap (λ (b : Bool). if b then calls else c ∷ calls) (left_false (nat_eq k c.party) (is_open k calls) e)
@@ -219,7 +219,7 @@ module _ {n : Machine} {e : Entry} {lent : Bool} {p : Position} {o : Outcome} (x
           (λ g h. ap (λ (k : ℕ). is_open k calls) (same_number j e.parties h) ∙ (none_is_new ∙ sym none))
           (λ g h. refl)
 
-  -- .. or its first deed; and the calls below it, with that of a deliverer that it made
+  -- the calls below a call that begins by its first deed, with that of a deliverer that it made
   abbrev calls_below : Bool → List OpenCall
   calls_below b = if b then call_by e.parties e.deed ∷ calls else calls
 
@@ -318,7 +318,7 @@ module _ {n : Machine} {e : Entry} {lent : Bool} {p : Position} {o : Outcome} (x
           by false g = no_other (nat_eq j e.party) (is_open j (calls_below (makes_deliverer e.deed.act))) g ∙ (below_counts (makes_deliverer e.deed.act) refl j
               ∙ sym (ap (λ (b : Bool). cond b (not false) (cond (nat_eq j e.parties) (makes_deliverer e.deed.act) (is_open j calls))) g))
 
--- .. of any that may make the step
+-- the step of any party that may make one
 module _ {n : Machine} {e : Entry} {lent : Bool} {p : Position} {o : Outcome} (x : OneStep n e lent p o) (cut : Bool) (is_lent_to is_lent_later : ℕ → Bool)
     (lends_later : (j : ℕ) → is_lent_later j ≡ lent_at (slice_get (now n e p o).parties j)) (limit : ℕ) (moves : List Move) where
   begins_call : (calls : List OpenCall) → Follows n calls is_lent_to cut → is_open e.party calls ≡ false → runs_outside calls ≡ true → (ends : Bool) → ends_call e.deed.act lent ≡ ends

@@ -88,7 +88,7 @@ abbrev pub FirstHasTaken : State → List Position → List OpenCall → Type 0
 FirstHasTaken w ps [] = Unit {0}
 FirstHasTaken w ps (c ∷ calls) = HasTaken w (slice_get ps c.party)
 
--- .. and the word says so where it has one
+-- the word says of each position whether its poll has an awaiter to give back
 abbrev pub holds_at : Option Position → Bool
 holds_at None = false
 holds_at (Some p) = holds_taken p
@@ -130,7 +130,7 @@ pub record Follows (m : Machine) (calls : List OpenCall) (is_lent_to : ℕ → B
   pub wait : OthersWait m.parties calls
   pub due : cut ≡ false → FirstIsDue m.word m.parties calls
 
--- .. of acts and positions
+-- an act that ends a call makes no deliverer
 pub ends_makes_none : (act : Act) (lent : Bool) → ends_call act lent ≡ true → makes_deliverer act ≡ false
 ends_makes_none WakeIdle lent e = cc
 ends_makes_none act lent e = refl

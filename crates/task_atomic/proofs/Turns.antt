@@ -145,7 +145,7 @@ takes_row act p put row = grind rules
 pub takes_by_rule : (act : Act) (p : Position) (s : Scene) → TakesTo act p s (rule s act p)
 takes_by_rule = by_rows TakesTo (λ act p s. tt) takes_row
 
--- .. and what it has in hand then
+-- what the party has in hand after the step
 abbrev pub HoldsTo : Act → Position → Scene → Option Outcome → Type 0
 HoldsTo act p s None = Unit {0}
 HoldsTo act p s (Some o) = holds_taken o.next ≡ true → (s.slots.awaiter ≡ None → ⊥) × (is_taker p ≡ true) × (o.word ≡ s.word) × (in_poll o.next ≡ in_poll p)

@@ -10,7 +10,7 @@ use Rattle.task_steps.specs.Deeds.{act}
 use Rattle.task_steps.specs.Rule.{Entry, steps_of}
 use Rattle.task_atomic.specs.Nesting.{calls_nest}
 
--- one call after another, where so many parties are; the newest act stands first, and what a row found does not matter here
+-- one call after another, at this number of parties; the newest act stands first, and what a row found does not matter here
 abbrev does : ℕ → ℕ → List Act → List Entry → List Entry
 does parties k [] log = log
 does parties k (a ∷ acts) log = record { party = k; deed = act a; parties = parties } ∷ does parties k acts log

@@ -56,7 +56,7 @@ goes_on act (Some (At r)) (Some next) c = record { call = Some (call_of r act); 
 goes_on act p (Some next) c = record c { acts = and_act (act_of act next) c.acts }
 goes_on act p None c = c
 
--- .. and after the steps by a table, of all parties
+-- the acts of a call after steps by a table, of all parties
 abbrev pub follows : Table → ℕ → Option Machine → List Step → InCall → InCall
 follows table i None steps c = c
 follows table i (Some m) [] c = c

@@ -85,7 +85,7 @@ module _ {F T A : Type 0} where
     pub stands : slice_get machine.parties party ≡ Some at
     pub did : DidLast party log ds
 
--- .. wherever the rule of a cell holds, for each party of a seat
+-- the same wherever the rule of a cell holds, for each party of a seat
 abbrev pub CellsAreRuns : {F T : Type 0} → Values F T → Type 0 → Type 0
 CellsAreRuns {F} {T} values A =
     (limit : ℕ) (s : Board (TaskPlace F T A) View) → RuleHolds {A = A} values limit s → (id index : ℕ) (v : View) (u : Member)

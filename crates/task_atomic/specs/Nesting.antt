@@ -22,22 +22,22 @@ begins_poll Look = true
 begins_poll ClaimOutput = true
 begins_poll act = false
 
--- .. and where its first look finds that the task has not ended, it clones its awaiter next
+-- a poll whose first look finds that the task has not ended clones its awaiter next
 abbrev pub is_to_clone : Act → Option State → Bool
 is_to_clone Look (Some w) = not (has_ended w)
 is_to_clone act found = false
 
--- .. and where it has taken an awaiter out, it asks `will_wake` of it
+-- a poll that has taken an awaiter out asks `will_wake` of it next
 abbrev pub is_to_compare : Act → Option State → Bool
 is_to_compare EndNotify (Some w) = w.awaiter
 is_to_compare act found = false
 
--- foreign code runs in a call that has done so much: after an act of that kind, and before a clone and a question
+-- foreign code runs in a call at this point: after an act of that kind, and before a clone and a question
 abbrev pub runs_after : Deed → List Deed → Bool
 runs_after first [] = is_foreign first.act || is_to_clone first.act first.found
 runs_after first (newest ∷ older) = is_foreign newest.act || (begins_poll first.act && is_to_compare newest.act newest.found)
 
--- .. so it does in this one
+-- foreign code runs in this call
 abbrev pub runs_foreign : OpenCall → Bool
 runs_foreign c = runs_after c.first c.later
 
@@ -71,11 +71,11 @@ makes_deliverer act = false
 abbrev pub call_by : ℕ → Deed → OpenCall
 call_by k d = record { party = k; first = d; later = [] }
 
--- Any other deed begins a call, and with a deliverer, below it, the call by which that one hands the Runnable over ..
+-- Any other deed begins a call, and with a deliverer, below it, the call by which that one hands the Runnable over.
 abbrev pub begun : Entry → List OpenCall → List OpenCall
 begun e calls = call_by e.party e.deed ∷ (if makes_deliverer e.deed.act then call_by e.parties e.deed ∷ calls else calls)
 
--- .. or is one more of the innermost
+-- a deed that begins no call is one more of the innermost
 abbrev pub gone_on : Entry → List OpenCall → List OpenCall
 gone_on e [] = begun e []
 gone_on e (c ∷ calls) =
@@ -139,7 +139,7 @@ pub record IsWholeRun (limit : ℕ) (log : List Entry) (m : Machine) : Type 0 wh
 abbrev pub NestedCallsAreWhole : Type 0
 NestedCallsAreWhole = (limit : ℕ) (log : List Entry) (m : Machine) → Reaches limit log m → calls_nest log ≡ true → IsWholeRun limit log m
 
--- .. and nowhere else
+-- a run is whole exactly where its calls nest
 abbrev pub WholeRunsNest : Type 0
 WholeRunsNest =
     (limit : ℕ) (log : List Entry) (m : Machine) → Reaches limit log m → (w : Whole) → whole limit (steps_of log) ≡ Some w → calls_nest log ≡ true

@@ -29,7 +29,7 @@ tells_call number limit (PollTask clone same) t =
     tells_poll (or_none (number_of number clone)) (plain_answered number (if is_done t.phase then claims same t else registers clone t))
 tells_call number limit call t = tells (plain_effect number (effect_of_call limit call t))
 
--- .. and all calls of a list, the newest first
+-- the events of all calls of a list, the newest first
 abbrev pub tells_at : {F T A : Type 0} → (A → ℕ) → ℕ → Call F T A → Option (Local F T A) → List Event
 tells_at number limit call None = []
 tells_at number limit call (Some t) = tells_call number limit call t

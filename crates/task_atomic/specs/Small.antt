@@ -136,7 +136,7 @@ acted limit SeesPending s = only_if (s.has_task && not (is_done s.phase)) s
 acted limit SeesClosed s = only_if (s.has_task && is_done s.phase && s.closed) s
 acted limit NoAct s = Some s
 
--- .. and a list of acts, the first one first
+-- the small task after a list of acts, the first one first
 abbrev pub all_acted : ℕ → List SmallAct → Option SmallTask → Option SmallTask
 all_acted limit [] s = s
 all_acted limit (act ∷ acts) None = None

@@ -70,7 +70,7 @@ other_or_undecided change limit key v w unmade same goes_on = by (ℕ_discrete (
     by (yes e) = let is : v ≡ w = one_word v w e in inr (neither (change.applies key w) (change.ends key w) (ap (change.applies key) (sym is) ∙ (ap (λ l. change.applies l v) (sym same) ∙ unwritten (change.applies limit v) _ unmade)) goes_on)
     by (no ne) = inl (λ e. ne (ap number_of e))
 
--- .. and a word that was found again leaves it so
+-- a word that is found again leaves an attempt undecided
 pub undecided : {Row : Type 0} (change : Attempt Row) (limit : ℕ) (v w : State) → number_of w ≡ number_of v → (v ≢ w) ⊎ IsUndecided limit change w → IsUndecided limit change w
 undecided change limit v w same = ⊎_elim (λ (other : v ≢ w). absurd (other (one_word v w (sym same)))) (λ (u : IsUndecided limit change w). u)
 
@@ -99,7 +99,7 @@ module _ {F T A : Type 0} where
       (λ (z : ℕ × ℕ × ℕ × Me (TaskPlace F T A) View × ℕ × ℕ). Allows (RuleHolds {A = A} values z.0) z.1 z.2 z.3 0 (λ n. either (n == z.4) z.5 n) (attempted values change (step z.1 0 z.4 z.5 none) z.3))
       (λ i. (sym a i, sym b i, sym c i, sym s.is i, sym from i, sym to i)) (may.exchanges s.tries w applied s.names)
 
-  -- .. and what it does to the shares
+  -- what the rule asks of the shares, at the seat as it is now
   pub may_more : {values : Values F T} {Row : Type 0} (limit key id other : ℕ) (me now : Me (TaskPlace F T A) View) (change : Attempt Row) (w : State) (old new : ℕ) → key ≡ limit → other ≡ id → HasSeen w me now
       → MayBring values limit id me change → change.applies limit w ≡ true → old ≡ number_of w → new ≡ number_of (word_after w (acts_on change w))
       → More (RuleHolds {A = A} values key) shares_out other now.0 (λ n. either (n == old) new n) (counted {S = TaskPlace F T A} (counts_on change) (step 2 0 old new none))
@@ -132,7 +132,7 @@ module _ {F T A : Type 0} where
       names w None = refl
       names w (Some t) = refl
 
-  -- .. which has found this word
+  -- the next round after a step that changed nothing, and has found this word
   pub found_next : (n : ℕ) (w : State) (now after : Me (TaskPlace F T A) View) → w ≡ state_of n → after ≡ (having_seen (tries_after (state_of n) (head_of now.0.members).tries) now.0, now.1) → HasFound w now after
   found_next n w now after e is = ap (λ (m : Me (TaskPlace F T A) View). (head_of m.0.members).tries) is ∙ ap (λ (v : State). tries_after v (head_of now.0.members).tries) (sym e)
 
@@ -199,7 +199,7 @@ module _ {F T A : Type 0} where
     knows = subst (λ (m : Me (TaskPlace F T A) View). Knows (head_of m.0.members).deeds c.word) s.is c.knows;
   }
 
-  -- .. made by an exchange of the word that it names
+  -- the same of a try that is made by an exchange of the word that it names
   pub changed_by : {values : Values F T} {Row : Type 0} (limit : ℕ) (change : Attempt Row) (n old new : ℕ) (w : State) (row : Row) (me after : Me (TaskPlace F T A) View) → n ≡ old → old ≡ number_of w → change.applies limit w ≡ true → row ≡ change.row w
       → attempted values change (step 2 0 old new none) me n after → HasChanged values limit change row me after
   changed_by {values = values} limit change n old new w row me after e is applied found x = let at = ap state_of (e ∙ is) ∙ state_of_number_of w in record {
@@ -217,7 +217,7 @@ module _ {F T A : Type 0} where
     knows = subst (λ (m : Me (TaskPlace F T A) View). Knows (head_of m.0.members).deeds w) s.is c.knows;
   }
 
-  -- .. and what it owes for the shares is what was owed before
+  -- what a later try owes for the shares is what the first one owed
   pub bring_still : {values : Values F T} {Row : Type 0} (limit id other : ℕ) (me now : Me (TaskPlace F T A) View) (change : Attempt Row) (w : State) → other ≡ id → HasSeen w me now → MayBring values limit id me change → MayBring values limit other now change
   bring_still {values = values} limit id other me now change w e s may = subst (λ (z : ℕ × Me (TaskPlace F T A) View). MayBring values limit z.0 z.1 change) (λ i. (sym e i, sym s.is i)) (λ t v applied names. may t v applied names)
 

@@ -22,7 +22,7 @@ module _ {F T A : Type 0} where
         (λ i. (ap (λ (x : Me (TaskPlace F T A) View). (head_of x.0.members).at) s i, ap (λ (v : View). (head_of v.members).at) viewed i, ap (λ (x : Me (TaskPlace F T A) View). x.1) s i)) m.carried;
   }
 
-  -- .. where it ends there, with these places
+  -- the seat after the step, where the party ends there with these places
   pub did : (p q : Party F T A) (path : List Deed) (at : Position) (held : List (ℕ × TaskPlace F T A)) → q.seat.block ≡ p.seat.block → q.seat.me.0 ≡ view (limit_of p) (member at (after path (deeds p)) ∷ []) → q.seat.me.1 ≡ held → DidWith path at held p q
   did p q path at held cell viewed has = record { cell = cell; is = λ i. (viewed i, has i) }
 

@@ -22,7 +22,7 @@ module _ {F T A : Type 0} where
   seen p q (Ok w) (claims_output _ c) = c
   seen p q (Err w) (sees_none _ e g) = (e, g)
 
-  -- .. by whether it found the task ended
+  -- a look, by whether it found the task ended
   pub saw : (w : State) (p q : Party F T A) (b : Bool) → SeesNone w p q → has_ended w ≡ b → Did (row Look w ∷ []) (if b then Notifier (OfPoll (poll_number (position p))) else Registrar (poll_number (position p))) p q
   saw w p q b s h = let n : ℕ = poll_number (position p) in subst (λ at. Did (row Look w ∷ []) at p q) (ap (λ (b : Bool). if b then Notifier (OfPoll n) else Registrar n) h) s.1
 
@@ -30,7 +30,7 @@ module _ {F T A : Type 0} where
   abbrev pub SeesNoneAgain : State → Party F T A → Party F T A → Type 0
   SeesNoneAgain w p q = ((has_to_wait w ≡ true) × Did (row Look w ∷ act EndCall ∷ []) (ends (position p)) p q) ⊎ ((has_to_wait w ≡ false) × (has_ended w ≡ true) × Did (row Look w ∷ []) (Notifier (OfPoll (poll_number (position p)))) p q)
 
-  -- .. by its answer
+  -- the same look, by its answer
   abbrev pub SeenAgain : Values F T → Party F T A → Party F T A → Result State State → Type 0
   SeenAgain values p q (Ok w) = ClaimsOutput values w (row Look w ∷ row ClaimOutput w ∷ []) p q
   SeenAgain values p q (Err w) = SeesNoneAgain w p q

@@ -111,13 +111,13 @@ module _ {F T A : Type 0} where
       let g = went (Look ∷ []) w (as_task n) (first_look w (n + 1)) [] path p q s cell m (ap (λ b. next_of (left b)) e.at_end) (ap (λ b. born_of (left b)) e.at_end) refl in
       sees_none w (not_true (has_output w) e.at_end) (subst (λ at. Did path (first_look w (poll_number at)) p q) (sym (position_is p (as_task n) [] s)) (subst (λ l. DidWith path (first_look w (n + 1)) l p q) (first_holds values w n q.seat.me.1 g.0) g.1))
 
-  -- .. which finds the task ended where one before it did
+  -- the first look finds the task ended where one before it did
   pub finds_it_ended : (values : Values F T) (limit : ℕ) (x : Result State State) (p q : Party F T A) → IfOk x (λ w. HasChanged values limit to_look w p.seat.me q.seat.me) → IfErr x (λ w. HasEnded values limit to_look w p.seat.me q.seat.me)
       → saw_ended (deeds p) ≡ true → (w : State) × (x ≡ Err w) × (has_ended w ≡ true)
   finds_it_ended values limit (Ok r) p q c e saw = not_both c.word (c.knows.ended saw) c.applied
   finds_it_ended values limit (Err w) p q c e saw = (w, refl, e.knows.ended saw)
 
-  -- .. and the look of one that has registered
+  -- the look of a poll that has registered finds no output
   looked_again_in_vain : {values : Values F T} (limit i : ℕ) (w : State) (p q : Party F T A) → Stands (Looking i) p → q.seat.block ≡ p.seat.block → HasEnded values limit to_look_again w p.seat.me q.seat.me → LooksAgain values p q (Err w)
   looked_again_in_vain {values = values} limit i w p q s cell e = by (has_to_wait w) refl
     where

@@ -52,7 +52,7 @@ module _ {F T A : Type 0} where
   pub stores_clone : (p q r : Party F T A) (b : Bool) (clone : A) → BeginsRegister p q b → b ≡ true → (stood : Bool) × DidWith (dropped_if stood) (Registered (poll_number (position q))) (awaiter_first (Some clone) []) q r → HasStored clone p r
   stores_clone p q r b clone f e s = let x = has_begun p q b true f e in (x.0, s.0, x.3, is_stored p q r x.0 s.0 x.1 (poll_number (position p)) (awaiter_first x.2 []) (awaiter_first (Some clone) []) x.5 s.1)
 
-  -- .. and taken back, where a notifier came meanwhile
+  -- the clone was taken back, where a notifier came meanwhile
   abbrev pub TakenBack : A → Party F T A → Party F T A → Type 0
   TakenBack clone p q = (w : State) × (stood : Bool) × (w.notifying ≡ false) × DidWith ((stored w ++ dropped_if stood) ++ (act TakeAwaiter ∷ [])) (TookBack (poll_number (position p))) (awaiter_first (Some clone) []) p q
 

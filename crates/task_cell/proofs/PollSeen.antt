@@ -44,6 +44,6 @@ not_both w e f = absurd (grind arith)
 abbrev as_error : State → Result State State
 as_error w = Err w
 
--- .. and a look that finds it going on contradicts one that saw it ended
+-- a look that finds the task going on contradicts one that saw it ended
 pub still_ended : {P : Type 0} (w : State) → (v : State) × (as_error w ≡ as_error v) × (has_ended v ≡ true) → has_ended w ≡ false → P
 still_ended w x f = absurd (cc)

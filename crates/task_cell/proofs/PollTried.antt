@@ -1,4 +1,4 @@
--- What the looks of a poll come to that are tried at most so many times, and the clone that is put in.
+-- What the looks of a poll come to that are tried a bounded number of times, and the clone that is put in.
 use Rattle.task_steps.specs.Values.{Values}
 use Rattle.task_cell.proofs.Vocabulary.{◌≡◌, ℕ, true, Option, Some, None, [], sym, ◌∙◌, Result, Err, IfOk, IfErr, IfSome, State, Looking, after_storing, Party, Waits}
 use Rattle.task_cell.proofs.Vocabulary.{saw_ended, deeds, Stands, DidWith, has_ended, as_task, HasChanged, HasEnded, Looks, LooksAgain, held, awaiter_first}
@@ -9,7 +9,7 @@ use Rattle.task_cell.specs.Stores.{PutsClone}
 use Rattle.task_steps.specs.declared.places.Held.{Held}
 
 module _ {F T A : Type 0} where
-  -- the looks, by at most so many tries
+  -- the looks, by a bounded number of tries
   pub tried_look : (values : Values F T) (limit n : ℕ) (x : Option (Result State State)) (p q : Party F T A) → Stands (as_task n) p → IfSome x (λ r. q.seat.block ≡ p.seat.block) → IfSome x (λ r. IfOk r (λ w. HasChanged values limit to_look w p.seat.me q.seat.me))
       → IfSome x (λ r. IfErr r (λ w. HasEnded values limit to_look w p.seat.me q.seat.me)) → IfSome x (λ r. Looks values p q r)
   tried_look values limit n None p q s cell c e = tt

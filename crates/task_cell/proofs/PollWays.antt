@@ -41,7 +41,7 @@ module _ {F T A : Type 0} where
   took_one p q None (finds_none w v f g) = tt
   took_one p q (Some a) (takes_awaiter w v i b f g) = (w, v, i, f, g)
 
-  -- .. and where it stands with the awaiter in hand
+  -- a notifier has taken the slot, and stands with the awaiter in hand
   abbrev pub InHand : NotifyingCall → List (ℕ × TaskPlace F T A) → Party F T A → Party F T A → Type 0
   InHand way held p q = (w : State) × (v : State) × (i : ℕ) × Fits BeginNotify w × DidWith (took w v) (AwaiterInHand i way) held p q
 
@@ -99,7 +99,7 @@ module _ {F T A : Type 0} where
   pub then_goes : (p q r : Party F T A) (a b : List Deed) (at : Position) (held held' : List (ℕ × TaskPlace F T A)) (f : Position → Position) → DidWith a at held p q → DidWith b (f (position q)) held' q r → DidWith (a ++ b) (f at) held' p r
   then_goes p q r a b at held held' f g h = did_then p q r a b at (f at) held held' g (subst (λ x. DidWith b (f x) held' q r) (position_is q at held (stands p q a at held g)) h)
 
-  -- .. by where the party stood before
+  -- a path goes on by where the party stood before
   goes_from : (p q : Party F T A) (path : List Deed) (at : Position) (held held' : List (ℕ × TaskPlace F T A)) (f : Position → Position) → StandsWith at held p → DidWith path (f at) held' p q → DidWith path (f (position p)) held' p q
   goes_from p q path at held held' f s g = subst (λ x. DidWith path (f x) held' p q) (sym (position_is p at held s)) g
 
@@ -134,7 +134,7 @@ module _ {F T A : Type 0} where
     goes_from p p path (TookOutput i) held (places_of p) (λ x. TookOutput (poll_number x)) s' (subst (λ l. DidWith path (TookOutput i) l p p) (sym (held_is p (TookOutput i) held s')) (record { cell = refl; is = s' })),
   )
 
-  -- .. and the output handed out
+  -- the output is handed out, after these deeds
   pub handed_out : (taken : List Deed) (p q r : Party F T A) → DidWith taken (TookOutput (poll_number (position p))) (places_of p) p q → Did (act HandOutOutput ∷ act EndCall ∷ []) (ends (position q)) q r
       → Did (taken ++ (act HandOutOutput ∷ act EndCall ∷ [])) (ends (position p)) p r
   handed_out taken p q r g o = then_goes p q r taken (act HandOutOutput ∷ act EndCall ∷ []) (TookOutput (poll_number (position p))) (places_of p) [] ends g o
@@ -143,7 +143,7 @@ module _ {F T A : Type 0} where
   pub has_claimed : {values : Values F T} (w : State) (path : List Deed) (p q : Party F T A) → ClaimsOutput values w path p q → (i : ℕ) × (z : Slot F T) × StandsWith (notifies w.awaiter (OfClaim i)) (work_first z []) q × IsOutput values z
   has_claimed w path p q c = let n : ℕ = poll_number (position p) in (n, c.output, stands p q path (notifies w.awaiter (OfClaim n)) (work_first c.output []) c.did, c.is_output)
 
-  -- .. and goes on to the end of its poll
+  -- a look that has claimed the output goes on to the end of its poll
   pub claimed_out : {values : Values F T} (w : State) (path rest : List Deed) (p q r : Party F T A) → ClaimsOutput values w path p q → Did rest (ends (position q)) q r → Did (path ++ rest) (ends (position p)) p r
   claimed_out w path rest p q r c o = let n : ℕ = poll_number (position p) in
       subst (λ k. Did (path ++ rest) (as_task k) p r) (claimed_number w.awaiter n) (then_goes p q r path rest (notifies w.awaiter (OfClaim n)) (work_first c.output []) [] ends c.did o)

@@ -81,7 +81,7 @@ module _ {F T A : Type 0} where
       by : AnswersPending held p q false → DidWith (act AnswerPending ∷ []) Pending held p q
       by (stays_pending g) = g
 
-  -- .. and then how the run ended
+  -- the run has ended, by this end, after its task was found closed, or not
   module _ (p q r : Party F T A) (b : Bool) (e : Option PendingEnd) (y : Slot F T) (f : AnswersPending (work_first y []) p q b) (h : b ≡ false) (g : Ends q r e) where
     first : DidWith (act AnswerPending ∷ []) Pending (work_first y []) p q
     first = left_pending (work_first y []) p q b f h

@@ -112,7 +112,7 @@ module _ {F T A : Type 0} where
       pub drop_notifies : Stands (notifies due OfDrop) o
       drop_notifies = subst (λ h. Stands (notifies h OfDrop) o) (sym is) (moved.stands p o (start.0 ∷ act DropFuture ∷ row Unschedule w ∷ []) (notifies w.awaiter OfDrop) [] drop_closes)
 
-      -- .. to q by the awaiter that was taken
+      -- to q by the awaiter that was taken
       module _ (q : Party F T A) (r : Option A) (notice : (way : NotifyingCall) → Stands (notifies due way) o → TakesDue way due o q r) where
         pub drop_takes : TakesDue OfDrop w.awaiter o q r
         drop_takes = subst (λ h. TakesDue OfDrop h o q r) is (notice OfDrop drop_notifies)
@@ -123,7 +123,7 @@ module _ {F T A : Type 0} where
         pub drop_has : HasTaken OfDrop q r
         drop_has = has_next OfDrop w.awaiter o q r refl (λ i. refl) drop_takes
 
-        -- .. to s by its wake
+        -- to s by the wake of that awaiter
         module _ (Woken : Type 0) (s : Party F T A) (wake : (way : NotifyingCall) → HasTaken way q r → Wakes Woken way r q s) where
           pub drop_wakes : Wakes Woken OfDrop r q s
           drop_wakes = wake OfDrop drop_has
@@ -131,7 +131,7 @@ module _ {F T A : Type 0} where
           pub drop_gives_up : Stands (GivingUp None Nothing) s
           drop_gives_up = moved.stands q s drop_wakes.0 (GivingUp None Nothing) [] drop_wakes.2
 
-          -- .. to t by the reference given up
+          -- to t by the reference given up
           module _ (t : Party F T A) (release : Released s t) where
             pub drop_releases : Releases None Nothing s t
             drop_releases = release None Nothing drop_gives_up

@@ -18,7 +18,7 @@ module _ {F T A : Type 0} where
     pub closed : word.closed ≡ true
     pub did : DidWith (row TakeUpClosed word ∷ act DropFuture ∷ []) (FutureGone ClosedRun) (work_first place []) p q
 
-  -- .. and one that is
+  -- what a run has done, whether it is polled or not
   pub record Started (values : Values F T) (p q : Party F T A) : Type 0 where
     pub word : State
     pub place : Slot F T

@@ -14,7 +14,7 @@ module _ {F T A : Type 0} where
     keeps_shares F T A values limit p.seat.id p.seat.me.0 (limit_of p) at (deeds p) [] held acts write (ap (λ m. m.0) s) owes same,
   )
 
-  -- .. or that they give one up where it is said
+  -- it is enough that the party's acts give a handle up where it is said
   pub may_give_up : {values : Values F T} (limit : ℕ) (p : Party F T A) (at : Position) (held : List (ℕ × TaskPlace F T A)) (acts : State → List Act) (gives : State → Bool) (write : ℕ → ℕ) → StandsWith at held p → Owes F T A values limit acts write at (deeds p) [] held
       → ((m : Machine) → Finds limit at (deeds p) [] m → Gives (gives m.word) (shares_of m.word) (shares_of (word_after m.word (acts m.word)))) → MayGiveUp values limit acts gives write p
   may_give_up {values = values} limit p at held acts gives write s owes moves = (

@@ -37,7 +37,7 @@ module _ {F T A : Type 0} where
   looks_over limit p q n w s cell e = let x = moved (CancelOver ∷ EndCall ∷ []) w (At (Task n)) [] p q s e.made in
       (w, e.at_end, did p q (row CancelOver w ∷ act EndCall ∷ []) (At (Task n)) [] cell x.viewed x.carried)
 
-  -- .. and the row of one that closes it
+  -- the row of a cancel that closes the task
   pub closes : {values : Values F T} (limit : ℕ) (p q : Party F T A) (n : ℕ) (r : Cancelled) → Stands (as_task n) p → q.seat.block ≡ p.seat.block → HasChanged values limit to_cancel r p.seat.me q.seat.me → Cancels n p q (Some r)
   closes {values = values} limit p q n r s cell c = subst (λ (x : Cancelled). Cancels n p q (Some x)) (sym c.is) (made (found 0 CancelIdle w) refl c.made)
     where

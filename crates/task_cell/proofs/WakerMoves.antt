@@ -131,7 +131,7 @@ module _ {F T A : Type 0} where
   wakes_over limit w p q s cell x = let path : List Deed = row WakeOver w ∷ act EndCall ∷ [] in
       makes_none path (paths.is_over w x.at_end) (record { cell = cell; is = back w (WakeOver ∷ EndCall ∷ []) path [] p q s (λ slots l ds. refl) x.made })
 
-  -- .. of one that is scheduled, or runs
+  -- a wake of a task that is scheduled, or runs
   pub wakes_busy : {values : Values F T} (limit : ℕ) (r : Woken) (p q : Party F T A) → Stands (At Lent) p → q.seat.block ≡ p.seat.block → HasChanged values limit to_wake r p.seat.me q.seat.me → brings_runnable r ≡ false → WakesTask p q None
   wakes_busy {values = values} limit r p q s cell x busy = by (found 0 WakeIdle w) (found 0 WakeRunning w) refl refl (ap brings_runnable (sym x.is) ∙ busy) x.made
     where
@@ -145,7 +145,7 @@ module _ {F T A : Type 0} where
       by false false busy unfit none m = let path : List Deed = row WakeScheduled w ∷ act EndCall ∷ [] in
           makes_none path (is_scheduled w (scheduled_fits w (right_true (is_held w) (is_open w) x.applied) busy unfit)) (record { cell = cell; is = back w (WakeScheduled ∷ EndCall ∷ []) path [] p q s (λ slots l ds. refl) m })
 
-  -- .. of one that was idle: the seat after the row, and what it comes to when the deliverer has left it
+  -- a wake of a task that was idle: the seat after the row, and what it comes to when the deliverer has left it
   pub beside_deliverer : {values : Values F T} (limit : ℕ) (r : Woken) (p q : Party F T A) → Stands (At Lent) p → (x : HasChanged values limit to_wake r p.seat.me q.seat.me) → brings_runnable r ≡ true
       → (found 0 WakeIdle x.word ≡ true) × Beside (row WakeIdle x.word ∷ act EndCall ∷ []) (fresh as_deliverer ∷ []) p q
   beside_deliverer {values = values} limit r p q s x idle = by (found 0 WakeIdle w) (found 0 WakeRunning w) refl (ap brings_runnable (sym x.is) ∙ idle) x.made
@@ -168,7 +168,7 @@ module _ {F T A : Type 0} where
   abbrev pub unmoved : ℕ → Party F T A → Party F T A
   unmoved limit q = record { seat = record (q.seat) { me = (view limit (fresh (At Lent) ∷ []), []) } }
 
-  -- .. has seen the word on which it is to try a wake
+  -- the party has seen the word on which it is to try a wake
   pub looks_open : {values : Values F T} (limit n : ℕ) (w : State) (q : Party F T A) → w ≡ state_of n → is_over limit w ≡ false → observed values to_wake (step 2 0 0 0 maybe.none) (unmoved limit q).seat.me n q.seat.me → Sees w (unmoved limit q) q
   looks_open limit n w q is shows e = let me = (unmoved limit q).seat.me in record {
     cell = refl;
@@ -177,7 +177,7 @@ module _ {F T A : Type 0} where
     seen = seeing_next n w w me me q.seat.me (seeing_first w me None tt refl) is (e.1 (ap (is_over limit) (sym is) ∙ shows));
   }
 
-  -- .. or that the task is over, and has made the wake
+  -- the party has seen that the task is over, and has made the wake
   pub looks_over : {values : Values F T} (limit n : ℕ) (w : State) (q : Party F T A) → w ≡ state_of n → is_over limit w ≡ true → observed values to_wake (step 2 0 0 0 maybe.none) (unmoved limit q).seat.me n q.seat.me → WakesTask (unmoved limit q) q None
   looks_over limit n w q is over e = let me = (unmoved limit q).seat.me in
       wakes_over limit w (unmoved limit q) q refl refl (ended limit n to_wake w w me me q.seat.me (seeing_first w me None tt refl) is over (e.0 (ap (is_over limit) (sym is) ∙ over)) e.2)

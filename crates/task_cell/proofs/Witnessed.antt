@@ -13,7 +13,7 @@ module _ {F T A : Type 0} where
       let did : deeds q ≡ after path [] = ap (λ (m : Me (TaskPlace F T A) View). (head_of m.0.members).deeds) g.is ∙ ap (after path) none in
       subst (λ (z : ℕ × Position × List Deed). ∥ ((word : State) × Witness z.0 word z.1 z.2) ∥₁) (λ i. (ends i, stands i, did i)) (subst IsWitnessed e w)
 
-  -- .. as a gain by reference
+  -- the same of a gain by reference
   pub was_gained : {X : Type 0} (limit : ℕ) (p q r : Party F T A) (waker : X × Party F T A) → p.seat.me ≡ (view limit (fresh as_lent ∷ []), []) → Gains limit p q (second (Some waker)) → r ≡ q → IsWitnessed r
       → (path : List Deed) × GainPath limit true path × WasMade limit as_lent path
   was_gained limit p q r waker new (gains_one path _ gain did _) e seen =
@@ -25,6 +25,6 @@ module _ {F T A : Type 0} where
   has_ended_by block limit p q r path cell is none g e = subst (λ (x : Party F T A). (x.seat.block ≡ block) × (x.seat.me ≡ (view limit (member as_ended (after path []) ∷ []), []))) (sym e)
       (g.cell ∙ cell, g.is ∙ (λ i. (view (is i) (member as_ended (after path (none i)) ∷ []), [])))
 
-  -- .. which was made in an interleaving
+  -- the same of a party that has ended, in an interleaving
   pub was_ended : (limit : ℕ) (r : Party F T A) (path : List Deed) → r.seat.me ≡ (view limit (member as_ended (after path []) ∷ []), []) → IsWitnessed r → WasMade limit as_ended path
   was_ended limit r path is = subst (λ (m : Me (TaskPlace F T A) View). ∥ ((word : State) × Witness m.0.limit word (head_of m.0.members).at (head_of m.0.members).deeds) ∥₁) is

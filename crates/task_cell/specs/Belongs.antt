@@ -36,7 +36,7 @@ module _ {R F Q M A B O : Type 0} {G : Ghosts F O} where
   abbrev pub IsContinued : Share R F Q M A B O G → F → Type 0
   IsContinued share future = Continued G.moves (spawned_in share) future
 
-  -- .. or have answered this output
+  -- polls of the future by which its task was spawned have answered this output
   abbrev pub HasYielded : Share R F Q M A B O G → O → Type 0
   HasYielded share output = Yielded G.moves (spawned_in share) output
 
@@ -54,7 +54,7 @@ module _ {R F Q M A B O T : Type 0} {G : Ghosts F O} where
   HasMade share path party =
       (party.seat.block ≡ share.block.id) × (party.seat.me ≡ (view share.block.key.limit (member as_lent (after path []) ∷ []), []))
 
-  -- .. or a party that was there before has, and has ended by it
+  -- a party of this cell that was there before has done this, and has ended by it
   abbrev pub HasEnded : Share R F Q M A B O G → List Deed → Party F T A → Type 0
   HasEnded share path party =
       (party.seat.block ≡ share.block.id) × (party.seat.me ≡ (view share.block.key.limit (member as_ended (after path []) ∷ []), []))

@@ -56,7 +56,7 @@ module _ {F T A : Type 0} where
   abbrev pub MayWrite : Values F T → ℕ → ℕ → Me (TaskPlace F T A) View → (ℕ → ℕ) → (ℕ → Me (TaskPlace F T A) View → Type 0) → Type 0
   MayWrite values limit id me write then = Allows (RuleHolds {A = A} values limit) 2 id me 0 write then
 
-  -- .. which leaves as many shares out
+  -- the write leaves as many shares out
   abbrev pub KeepsShares : Values F T → ℕ → ℕ → Me (TaskPlace F T A) View → (ℕ → ℕ) → Type 0
   KeepsShares values limit id me write = Same (RuleHolds {A = A} values limit) shares_out id me.0 write
 
@@ -76,15 +76,15 @@ module _ {F T A : Type 0} where
   abbrev pub MayMake : Values F T → ℕ → (State → List Act) → (ℕ → ℕ) → Party F T A → Type 0
   MayMake values limit acts write p = MayWrite values limit p.seat.id p.seat.me write (HasActed values acts p) × KeepsShares values limit p.seat.id p.seat.me write
 
-  -- .. where the party gives a handle up, and its share with it where it says so
+  -- the rule allows the party acts by which it gives a handle up, and its share with it where it says so
   abbrev pub MayGiveUp : Values F T → ℕ → (State → List Act) → (State → Bool) → (ℕ → ℕ) → Party F T A → Type 0
   MayGiveUp values limit acts gives write p = MayWrite values limit p.seat.id p.seat.me write (HasActed values acts p) × EndsShare values limit p.seat.id p.seat.me write (λ n. gives (state_of n))
 
-  -- .. to cut its view in two: it keeps the left part
+  -- the rule allows the party to cut its view in two: it keeps the left part
   abbrev pub MaySplit : Values F T → ℕ → (View → View) → (View → View) → Party F T A → Type 0
   MaySplit values limit left right p = Splits (RuleHolds {A = A} values limit) p.seat.id p.seat.me.0 (left p.seat.me.0) (right p.seat.me.0)
 
-  -- .. and private acts, without a step
+  -- the rule allows the party private acts, without a step
   abbrev pub MayNote : Values F T → ℕ → (State → List Act) → Party F T A → Type 0
   MayNote values limit acts p = Notes (RuleHolds {A = A} values limit) p.seat.id p.seat.me (HasActed values acts p)
 
@@ -118,7 +118,7 @@ module _ {F T A : Type 0} where
         → DidWith (row BeginNotify w ∷ act TakeAwaiter ∷ []) (Releaser hand (way_of (position p))) (awaiter_first y (places_of p)) p q
         → BeginsNotify p q true
 
-  -- .. and the second: what lies there is taken out, and the place given back
+  -- the second step of a notifier: what lies there is taken out, and the place given back
   pub record EndsNotify (hand : Option ℕ) (way : NotifyingCall) (held : List (ℕ × TaskPlace F T A)) (p q : Party F T A) (found : Option (Held A))
       : Type 0 where
     pub word : State

@@ -23,7 +23,7 @@ module _ {R F Q M A X B O K : Type 0} {G : Ghosts F O} where
   LentTo polled cell around f answer g =
       (w : TaskWaker R F Q M A X B O K G) × (cell_of w.inner.share ≡ cell) × (w.around ≡ around) × polled f w answer g
 
-  -- .. as a run does: f is what polls that answered Pending have made of the future that was spawned, and its type states this poll
+  -- a run has polled the future: f is what polls that answered Pending have made of the future that was spawned, and its type states this poll
   abbrev pub PolledOnce : (F → TaskWaker R F Q M A X B O K G → Poll O → F → Type 0) → F → BlockId × Cell R Q M B → X → Poll O → Type 0
   PolledOnce polled spawned cell around answer =
       (f : F) × (g : F) × Continued G.moves spawned f × G.moves f answer g × LentTo polled cell around f answer g

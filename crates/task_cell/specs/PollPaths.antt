@@ -37,7 +37,7 @@ module _ {A K : Type 0} where
     drops : (w v : State) (taken : A) → Fits BeginNotify w → compared taken awaiter true
         → TakePath woken compared awaiter (row BeginNotify w ∷ act TakeAwaiter ∷ row EndNotify v ∷ act DropAwaiter ∷ [])
 
-  -- .. where the word found says that there is one
+  -- the same where the word found says that an awaiter is stored
   abbrev pub TakePathIf : (A → K → Type 0) → (A → A → Bool → Type 0) → A → Bool → List Deed → Type 0
   TakePathIf woken compared awaiter true path = TakePath woken compared awaiter path
   TakePathIf woken compared awaiter false path = path ≡ []
@@ -108,7 +108,7 @@ module _ {F T A : Type 0} where
     sees_none : (w : State) → has_output w ≡ false → Did (row Look w ∷ []) (first_look w (poll_number (position p))) p q
         → Looks values p q (Err w)
 
-  -- .. and the one after it has registered
+  -- the look of a poll that has registered
   pub data LooksAgain (values : Values F T) (p q : Party F T A) : Result State State → Type 0 where
     claims_output_now : (w : State) → ClaimsOutput values w (row Look w ∷ row ClaimOutput w ∷ []) p q → LooksAgain values p q (Ok w)
     has_to_wait_on : (w : State) → has_to_wait w ≡ true → Did (row Look w ∷ act EndCall ∷ []) (as_task (poll_number (position p))) p q

@@ -17,11 +17,11 @@ module _ {F T A : Type 0} where
   abbrev pub Witnesses : Party F T A → State → Type 0
   Witnesses p word = Witness (limit_of p) word (position p) (deeds p)
 
-  -- .. in some word
+  -- the same of some word
   abbrev pub IsWitnessed : Party F T A → Type 0
   IsWitnessed p = ∥ ((word : State) × Witnesses p word) ∥₁
 
-  -- .. of a word that is answered, if it is
+  -- the same of a word that is answered, if one is
   abbrev pub LastWordIf : Option ℕ → Party F T A → Type 0
   LastWordIf None p = Unit {0}
   LastWordIf (Some word) p = Witnesses p (state_of word)

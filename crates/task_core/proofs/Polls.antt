@@ -9,6 +9,6 @@ module _ {F O : Type 0} {moves : F → Poll O → F → Type 0} (Holds : F → T
   still_holds _ unpolled = first
   still_holds _ (polled before after continued moved) = keeps before after (still_holds before continued) moved
 
-  -- .. so the output is one that such a future answers
+  -- the output is one that such a future answers
   pub last_poll : (output : O) → Yielded moves spawned output → (before after : F) × Holds before × moves before (Ready output) after
   last_poll output yielded = (yielded.before, yielded.after, still_holds yielded.before yielded.continued, yielded.answered)

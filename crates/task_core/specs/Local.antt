@@ -232,7 +232,7 @@ pub record Answered (F T A : Type 0) : Type 0 where
   pub answer : TaskPoll (Option T)
   pub effect : Effect F T A
 
--- .. of a task that is done: its output, if nobody had it, and the stored awaiter is dropped where it wakes the same as the caller's, else
+-- `poll` of a task that is done: its output, if nobody had it, and the stored awaiter is dropped where it wakes the same as the caller's, else
 -- woken
 abbrev pub claims : {F T A : Type 0} → Bool → Local F T A → Answered F T A
 claims same t = record {
@@ -243,7 +243,7 @@ claims same t = record {
   };
 }
 
--- .. of another task: the clone of the caller's awaiter is stored, if there is one
+-- `poll` of another task: the clone of the caller's awaiter is stored, if there is one
 abbrev pub registers : {F T A : Type 0} → Option A → Local F T A → Answered F T A
 registers None t = record { answer = answer.Refused; effect = becomes t }
 registers (Some clone) t =

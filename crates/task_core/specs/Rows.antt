@@ -60,7 +60,7 @@ edited Keeps w = w
 edited (Sets flag) w = with_flags (mask_of flag) w
 edited (Clears flag) w = without_flags (mask_of flag) w
 
--- .. and of its count
+-- the word after an edit of its count
 abbrev pub counted : Count → State → State
 counted Stays w = w
 counted Adds w = record w { references = w.references + 1 }

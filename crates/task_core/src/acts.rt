@@ -17,7 +17,7 @@ pub enum Act {
     CloseOrphan,
     /// A run or a Runnable's drop gives its reference up while another handle is left.
     GiveUpReference,
-    /// .. while none is left.
+    /// A run or a Runnable's drop gives the last reference up.
     GiveUpLastReference,
     /// A wake of a task that is over.
     WakeOver,
@@ -77,7 +77,7 @@ pub enum Act {
     EndNotify,
     /// A register releases the awaiter slot.
     EndRegister,
-    /// .. where a notifier came meanwhile.
+    /// A register releases the awaiter slot, since a notifier came meanwhile.
     EndRegisterNotified,
     /// A load of a poll.
     Look,

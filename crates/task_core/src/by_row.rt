@@ -156,7 +156,7 @@ impl Word {
         }
     }
 
-    /// .. and `None` where the row does not fit.
+    /// The word that an act writes, or `None` where its row does not fit the word found.
     #[inline(always)]
     pub fn by_row(self, limit: u64, act: Act) -> Option<Word>
         requires room { gains_by (row_of act) ≡ true → self.references < 2 ^ 56 - 1 }

@@ -51,15 +51,15 @@ pub enum Test {
     NoOutput,
     /// The count is below the limit.
     BelowLimit,
-    /// .. or not.
+    /// The count is at the limit.
     AtLimit,
     /// Another handle is left.
     OthersLeft,
-    /// .. or not.
+    /// No other handle is left.
     LastHandle,
     /// No reference is counted.
     NoReference,
-    /// .. or some.
+    /// A reference is counted.
     SomeReference,
 }
 
@@ -74,7 +74,7 @@ pub enum Edit {
     Clears(Flag),
 }
 
-/// .. and to its count.
+/// What a row does to the count.
 #[derive(Clone, Copy, Debug, PartialEq, Eq)]
 pub enum Count {
     /// Nothing.

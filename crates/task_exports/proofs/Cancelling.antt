@@ -78,7 +78,7 @@ module _ {F T A : Type 0} where
   pub ends_not_there : (n : ℕ) (hand : Option ℕ) (p q r : Party F T A) (found : Option (Held A)) → EndsNotify hand (OfCancel n) [] p q found → found ≡ None → Did (act EndCall ∷ []) (rest_of (position q)) q r → Releases (OfCancel n) [] (act EndCall ∷ []) (as_task n) 12 p r 12
   ends_not_there n hand p q r found x e g = let y = is_not_there n hand p q found x e in none_there y.0 (ends_after Nothing (Task n) (row EndNotify y.0 ∷ []) p q r y.1 g)
 
-  -- .. and was woken
+  -- the awaiter was woken
   pub woke : (n i : ℕ) (p q : Party F T A) → Stands (AwaiterInHand i (OfCancel n)) p → DidWith (act WakeAwaiter ∷ []) (after_waking (way_of (position p))) (places_of p) p q → Did (act WakeAwaiter ∷ []) (CallEnding Nothing (Task n)) p q
   woke n i p q s g = dealt (OfCancel n) i [] (act WakeAwaiter ∷ []) p q s g
 
@@ -92,7 +92,7 @@ module _ {F T A : Type 0} where
   pub deliverer_stands : (n : ℕ) (p q : Party F T A) (due : Bool) → CancelsRow n p q (Some (Idle due)) → Stands (Deliverer false (after_cancelling due n)) q
   deliverer_stands n p q due x = stands p q (row CancelIdle x.0 ∷ []) (Deliverer false (after_cancelling due n)) [] x.3
 
-  -- .. after which its party is one of the cell still
+  -- the party of a cancel's row is one of the cell still
   pub row_cell : (n : ℕ) (p q : Party F T A) (due : Bool) → CancelsRow n p q (Some (Idle due)) → q.seat.block ≡ p.seat.block
   row_cell n p q due x = x.3.cell
 

@@ -24,11 +24,11 @@ module _ {x b l k : Hand} {There : Type 0} {n m : ℕ} (Says : Hand → Hand →
   pub crossed : b ≡ x → (k ≡ l) × There × (m ≡ n) → Says b l n → Says x k m
   crossed e f s = subst (λ z. Says z k m) e (subst (λ z. Says b z m) (sym f.0) (subst (λ z. Says b l z) (sym f.2) s))
 
--- .. where a share of the same cell is there still
+-- the place keeps the handle where a share of the same cell is there still
 pub crossed_still : (h k : Handle) {b l : Hand} {Told : Type 0} → b ≡ h.hand → (k.hand ≡ l) × (k.there ≡ true) × Told → Stays b l → Keeps h k
 crossed_still h k {b} {l} e f s = let t = subst (λ z. Stays z k.hand) e (subst (λ z. Stays b z) (sym f.0) s) in (f.1, t.0, t.1, t.2, t.3)
 
--- .. of one that may have brought a record
+-- the same of an export that may have brought a record
 pub crossed_end : {x b l k : Hand} {There : Type 0} {n m : ℕ} {o p : Option Hand} (Says : Hand → Hand → Option CellParty → ℕ → Type 0)
     → b ≡ x → (k ≡ l) × There × (m ≡ n) × (p ≡ o) → Says b l (party_in o) n → Says x k (party_in p) m
 crossed_end {b = b} {l = l} {k = k} {n = n} {m = m} {p = p} Says e f s = subst (λ z. Says z k (party_in p) m) e (subst (λ z. Says b z (party_in p) m) (sym f.0) (subst (λ z. Says b l (party_in p) z) (sym f.2) (subst (λ z. Says b l (party_in z) n) (sym f.3) s)))

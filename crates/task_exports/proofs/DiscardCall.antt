@@ -35,7 +35,7 @@ module _ (before : List Deed) (x k : Hand) where
   given_over _ (answers.others w f gone d) e = (gone, stands _ _ _ _ _ d, (row GiveUpReference w ∷ [], paths.leaves_others w f, d))
   given_over _ (answers.none_left w answer y f live d) e = differs 9 1 refl refl e
 
-  -- .. it was the last handle
+  -- by the answer: it was the last handle
   pub given_last : (n : ℕ) → GivesBack before x k n → n ≡ 9 → IsLive k × IsEmptier false k.party × ((q : CellParty) → Did (empties false) as_ended k.party q → Releases before x.party q)
   given_last _ (answers.others w f gone d) e = differs 1 9 refl refl e
   given_last _ (answers.none_left w answer y f live d) e = (
@@ -53,7 +53,7 @@ module _ (Woken : Type 0) where
   abbrev pub Leaves : Bool → List Deed → CellParty → CellParty → Type 0
   Leaves due before p q = (rest : List Deed) × LeavesPath Woken due rest × Did (before ++ rest) as_ended p q
 
-  -- .. which has the awaiter's place
+  -- the rest of a drop that has the awaiter's place
   abbrev pub Takes : CellParty → CellParty → Type 0
   Takes p q = (path : List Deed) × WakesAndLeaves Woken path × Did path as_ended p q
 
@@ -66,12 +66,12 @@ module _ (Woken : Type 0) where
     left_over _ (answers.takes w hand y is f live h d) e = differs 7 1 refl refl e
     left_over _ (answers.gives n r np g) e = let z = given_over (before ++ n) x k r g e in (z.0, z.1, passes_on due before n x.party k.party np z.2)
 
-    -- .. it was the last handle
+    -- by the answer: the reference was the last handle
     pub left_last : (n : ℕ) → GoesOn OfDrop due before x k n → n ≡ 9 → IsLive k × IsEmptier false k.party × ((q : CellParty) → Did (empties false) as_ended k.party q → Leaves due before x.party q)
     left_last _ (answers.takes w hand y is f live h d) e = differs 7 9 refl refl e
     left_last _ (answers.gives n r np g) e = let z = given_last (before ++ n) x k r g e in (z.0, z.1, λ q d. passes_on due before n x.party q np (z.2 q d))
 
-    -- .. the awaiter's place is the party's
+    -- by the answer: the awaiter's place is the party's
     pub left_taking : (n : ℕ) → GoesOn OfDrop due before x k n → n ≡ 7
         → IsLive k × ((awaiter : Option ℕ) × (y : _) × StandsWith (Releaser awaiter OfDrop) (awaiter_first y []) k.party × Waits awaiter y) × ((q : CellParty) → Takes k.party q → Leaves due before x.party q)
     left_taking _ (answers.takes w hand y is f live h d) e = (live, (hand, y, stands _ _ _ _ _ d, h), λ q t. subst (λ b. Leaves b before x.party q) (sym is) (taking_leaves w hand y f d q t.0 t.1 t.2))
@@ -92,12 +92,12 @@ module _ (Woken : Type 0) where
     taken_over _ _ (answers.wakes_first v i live d) e = differs 14 1 refl refl e
     taken_over _ _ (answers.without_awaiter v r g) e = let z = given_over (row EndNotify v ∷ []) x k r g e in (z.0, z.1, (_, wakes_and_leaves v false [] z.2.0 paths.nobody z.2.1, z.2.2))
 
-    -- .. and it was the last handle
+    -- by the answer: nothing lay there, and it was the last handle
     pub taken_last : (awaiter : Option ℕ) (n : ℕ) → Discarded x k awaiter n → n ≡ 9 → IsLive k × IsEmptier false k.party × ((q : CellParty) → Did (empties false) as_ended k.party q → Takes x.party q)
     taken_last _ _ (answers.wakes_first v i live d) e = differs 14 9 refl refl e
     taken_last _ _ (answers.without_awaiter v r g) e = let z = given_last (row EndNotify v ∷ []) x k r g e in (z.0, z.1, λ q d. let g : Releases (row EndNotify v ∷ []) x.party q = z.2 q d in (_, wakes_and_leaves v false [] g.0 paths.nobody g.1, g.2))
 
-    -- .. it is to be woken
+    -- by the answer: the awaiter is to be woken
     pub taken_wakes : (awaiter : Option ℕ) (n : ℕ) → Discarded x k awaiter n → n ≡ 14 → IsLive k × ((i : ℕ) × Stands (AwaiterInHand i OfDrop) k.party) × ((q : CellParty) → Woken × Releases (act WakeAwaiter ∷ []) k.party q → Takes x.party q)
     taken_wakes _ _ (answers.wakes_first v i live d) e = (
       live,
@@ -116,7 +116,7 @@ module _ (Woken : Type 0) where
     abbrev pub Discards : CellParty → CellParty → Type 0
     Discards p q = (path : List Deed) × DiscardPath Woken path × Done did path × Did path as_ended p q
 
-    -- .. from its first deed and what came after the future was dropped
+    -- the whole drop, from its first deed and what came after the future was dropped
     pub discards : (x k q : CellParty) → ((d : Deed) × (y : _) × DiscardStart d × DidWith (d ∷ act DropFuture ∷ []) (FutureGone DroppedRunnable) (work_first y []) x k) → did DropFuture → ((w : State) × (rest : List Deed) × LeavesPath Woken w.awaiter rest × Did (row Unschedule w ∷ rest) as_ended k q) → Discards x q
     discards x k q s fact g = discards_by g.0 g.1 g.2 (did_then x k q (s.0 ∷ act DropFuture ∷ []) (row Unschedule g.0 ∷ g.1) (FutureGone DroppedRunnable) as_ended (work_first s.1 []) [] s.3 g.3)
       where

@@ -91,7 +91,7 @@ module _ {M : Type 1} {𝓤 : Ura M} (𝓛 : Logic 𝓤) (ν₁ ν₂ ν₃ ν�
       nothing ! $ move ! (2 ∷ 0 ∷ []) $ join ! $ move ! (1 ∷ 0 ∷ []) $ join ! $ move ! (1 ∷ 0 ∷ []) $
       by ! (𝓛.laws.struct_back full_share ν₁ (tcons share (tcons party tnil)) b 0 (vcons (vstruct (vcons (vstruct (vcons v (vcons nil_val vnil))) vnil)) (vcons party_val vnil)))
 
-  -- .. and taken apart again
+  -- what lies there as a hand is taken apart again
   pub front : (v : Val) → ent 𝓤 (H.at full_share hand b 0 (bits v)) (mean 𝓛 (‵ (fat full_share ty_ptr b 0 v) ⊛ beside))
   front v =
       qed 𝓛 (‵ (fat full_share hand b 0 (bits v)) ∷ []) ∵

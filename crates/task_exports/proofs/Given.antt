@@ -18,7 +18,7 @@ module _ {F T A : Type 0} where
   was_last hand answer p q true (last w y f g) e = record { word = w; place = y; fits = f; did = g }
   was_last hand answer p q false (not_last w f g) e = absurd (cc)
 
-  -- .. or others are left
+  -- others are left after the reference
   pub record Others (hand : Option ℕ) (answer : Answer) (p q : Party F T A) : Type 0 where
     pub word : State
     pub fits : Fits GiveUpReference word

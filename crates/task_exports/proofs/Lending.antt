@@ -54,7 +54,7 @@ module _ {M : Type 1} {𝓤 : Ura M} (𝓛 : Logic 𝓤) (b : ℕ) where
       move ! (1 ∷ []) $ use1 𝓛 (‵ ftrue ⊛ ‵ (of_marker full_share)) (𝓛.laws.room_apart [] tnil b 8 refl) $ split ! $
       keep ! (2 ∷ 1 ∷ 4 ∷ 6 ∷ 8 ∷ []) $ done !
 
-  -- .. and put together, where the pointer was written
+  -- the same parts put together, where the pointer was written
   pub whole : (v : Val) → ent 𝓤 (sep 𝓤 (mean 𝓛 beside) (H.at full_share ty_ptr b 0 v)) (H.room lent b 0)
   whole v =
       qed 𝓛 (beside ∷ ‵ (fat full_share ty_ptr b 0 v) ∷ []) ∵ split3 ! $ move ! (2 ∷ []) $ split ! $
@@ -103,7 +103,7 @@ module _ {M : Type 1} {𝓤 : Ura M} (𝓛 : Logic 𝓤) (b : ℕ) where
         move ! (2 ∷ []) $ bor_new ! tt κ $ bor_fracture ! tt of_lent full_share $ move ! (2 ∷ 0 ∷ []) $ fjoin ! $
         keep ! (0 ∷ 5 ∷ 4 ∷ 3 ∷ 2 ∷ 1 ∷ []) $ now ! $ done !)
 
-    -- .. and comes back
+    -- what was lent comes back
     pub comes_back : ent 𝓤 (sep 𝓤 (sem 𝓛 (fdead κ)) (mean 𝓛 owed)) (H.⇛ (sep 𝓤 (H.at full_share ty_ptr b 0 (ptr_val p)) (mean 𝓛 beside)))
     comes_back = qed 𝓛 (‵ (fdead κ) ∷ owed ∷ []) {P = H.⇛ (sep 𝓤 (H.at full_share ty_ptr b 0 (ptr_val p)) (mean 𝓛 beside))} (updating ! $
         use1 𝓛 (‵ (fdead κ) ⊛ ‵ (fdead κ)) (𝓛.lfts.dead_dup κ) $ split ! $ use1 𝓛 (‵ (fdead κ) ⊛ ‵ (fdead κ)) (𝓛.lfts.dead_dup κ) $ split ! $

@@ -20,7 +20,7 @@ module _ {R F Q M A B O T : Type 0} {G : Ghosts F O} where
   pub of_limit : (before : MaybeShare R F Q M A B O G) (share : Share R F Q M A B O G) (p : Party F T A) → Lives before p → Taken before share → limit_of p ≡ share.block.key.limit
   of_limit before share p live taken = live.2 ∙ sym (ap (λ k. k.limit) taken.1)
 
-  -- .. once the party has made steps
+  -- the same once the party has made steps
   pub lives_on : (before later : MaybeShare R F Q M A B O G) (share : Share R F Q M A B O G) (p q : Party F T A) (path : List Deed) (at : Position) (held : List (ℕ × TaskPlace F T A))
       → Lives before p → Taken before share → Leaves share later true → DidWith path at held p q → Lives later q
   lives_on before later share p q path at held live taken leaves g = (
@@ -29,11 +29,11 @@ module _ {R F Q M A B O T : Type 0} {G : Ghosts F O} where
     moved.limit_is p q path at held g ∙ (live.2 ∙ sym (ap (λ k. k.limit) (leaves.terms ∙ taken.1))),
   )
 
-  -- .. or none
+  -- the same where a step has brought a share, or none
   pub lives_still : (before later : MaybeShare R F Q M A B O G) (share : Share R F Q M A B O G) (p : Party F T A) → Lives before p → Taken before share → Leaves share later true → Lives later p
   lives_still before later share p live taken leaves = (leaves.is_there, live.1 ∙ sym (leaves.cell.0 ∙ taken.0), live.2 ∙ sym (ap (λ k. k.limit) (leaves.terms ∙ taken.1)))
 
-  -- .. where the step has left the share
+  -- the same where the step has left the share
   pub lives_left : (before later : MaybeShare R F Q M A B O G) (share : Share R F Q M A B O G) (p q : Party F T A) (path : List Deed) (at : Position) (held : List (ℕ × TaskPlace F T A)) (there : Bool)
       → Lives before p → Taken before share → Leaves share later there → there ≡ true → DidWith path at held p q → Lives later q
   lives_left before later share p q path at held there live taken leaves is g = (
@@ -57,7 +57,7 @@ module _ {R F Q M A B O T : Type 0} {G : Ghosts F O} where
       → ((gone.maybe.there ≡ false) × (gone.maybe.id ≡ before.maybe.id)) × (p.seat.block ≡ before.maybe.id) × (p.seat.me ≡ (view before.maybe.key.limit (member as_lent (after path []) ∷ []), []))
   records before gone share path p taken leaves made = ((leaves.is_there, leaves.cell.0 ∙ taken.0), made.0 ∙ taken.0, made.1 ∙ ap (λ k. (view k.limit (member as_lent (after path []) ∷ []), [])) taken.1)
 
-  -- .. by a share of the same cell, which a step that was not made has handed back
+  -- the same by a share of the same cell, which a step that was not made has handed back
   pub lives_kept : (before later : MaybeShare R F Q M A B O G) (share kept : Share R F Q M A B O G) (p q : Party F T A) (path : List Deed) (at : Position) (held : List (ℕ × TaskPlace F T A))
       → Lives before p → Taken before share → IsSame share kept → Leaves kept later true → DidWith path at held p q → Lives later q
   lives_kept before later share kept p q path at held live taken same leaves g =

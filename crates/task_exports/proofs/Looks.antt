@@ -73,7 +73,7 @@ module _ {F T A : Type 0} where
       let s = subst (λ (b : Bool). StandsWith (notifies b (OfClaim i)) held q) (sym e) (stands p q (claims w) (notifies w.awaiter (OfClaim i)) held c.did) in
       claimed_goes values claims i w c.output p q r a c.there c.is_output c.did (subst (λ (b : Bool). ClaimGoesOn b i c.output q r a) e (f i c.output s))
 
-  -- .. and one that has found the task ended
+  -- a look that has found the task ended, and what followed
   ended_goes : (claims : State → List Deed) (i : ℕ) (w : State) (p q r : Party F T A) (a : ℕ) → has_ended w ≡ true → Did (row Look w ∷ []) (Notifier (OfPoll i)) p q → EndGoesOn i q r a → Answers i claims p r a
   ended_goes claims i w p q r _ e g (ends_now v f d) = ends w v e f (did_then p q r (row Look w ∷ []) (row MissNotify v ∷ act EndCall ∷ []) (Notifier (OfPoll i)) (as_task i) [] [] g d)
   ended_goes claims i w p q r _ e g (end_takes t) = ends_and_takes w e (

@@ -36,7 +36,7 @@ module _ {F T A : Type 0} where
   )
   takes_after way held before p q r false g n e = never e
 
-  -- .. or another party was at it
+  -- the place of the awaiter is passed by, since another party was at it
   abbrev pub Passes : NotifyingCall → List (ℕ × TaskPlace F T A) → List Deed → Party F T A → Party F T A → Type 0
   Passes way held before p q = (w : State) × Fits MissNotify w × DidWith (before ++ row MissNotify w ∷ []) (after_taking None way) held p q
 
@@ -60,7 +60,7 @@ module _ {F T A : Type 0} where
   in_hand way held (Some i) p q found a x e goes = (x.word, i, subst (λ at. DidWith (row EndNotify x.word ∷ []) at held p q) (goes i) x.did)
   in_hand way held None p q found a x e goes = never (sym x.is_there ∙ ap (λ (z : Option (Held A)). is_some z) e)
 
-  -- .. or nothing lay there
+  -- nothing lay in the place
   pub none_there : (way : NotifyingCall) (held : List (ℕ × TaskPlace F T A)) (hand : Option ℕ) (p q : Party F T A) (found : Option (Held A)) → EndsNotify hand way held p q found → found ≡ None
       → (v : State) × DidWith (row EndNotify v ∷ []) (after_taking None way) held p q
   none_there way held None p q found x e = (x.word, x.did)

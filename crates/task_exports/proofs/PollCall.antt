@@ -44,7 +44,7 @@ at_after h k f s = (s.0, s.1, f.1.1 ∙ sym s.2, f.1.2 ∙ sym s.4)
 pub at_then : (p q : CellParty) (k : Handle) (path : List Deed) (at : Position) (held : _) → IsAt p k → DidWith path at held p q → IsAt q k
 at_then p q k path at held x g = (x.0, x.1, g.cell ∙ x.2, limit_is p q path at held g ∙ x.3)
 
--- .. so that the place is full
+-- the place is full after such an export
 pub full_there : (p : CellParty) (k : Handle) (path : List Deed) (at : Position) (held : _) → IsAt p k → DidWith path at held p k.hand.party → IsFull k
 full_there p k path at held x g = let y = at_then p k.hand.party k path at held x g in (y.0, (y.1, y.2, y.3))
 
@@ -108,7 +108,7 @@ module _ {F T A : Type 0} (i : ℕ) (claims : State → List Deed) (p q : Party 
   claimed _ (ends w v e f d) h = differs 17 16 refl refl h
   claimed _ (ends_and_takes w e t) h = differs 7 16 refl refl h
 
-  -- .. and the awaiter's place is this party's
+  -- the output is claimed, and the awaiter's place is this party's
   abbrev pub ClaimedTaking : Type 0
   ClaimedTaking = (w : State) × (z : Slot F T) × (has_output w ≡ true) × IsOutput unknown z × (w.awaiter ≡ true) × TakesPlace (OfClaim i) (λ v. claims w ++ taking v) (work_first z []) p q
 
@@ -128,7 +128,7 @@ module _ {F T A : Type 0} (i : ℕ) (claims : State → List Deed) (p q : Party 
   ended _ (ends w v e f d) h = (w, v, e, f, d)
   ended _ (ends_and_takes w e t) h = differs 7 17 refl refl h
 
-  -- .. and the awaiter's place is this party's
+  -- the task has ended, and the awaiter's place is this party's
   abbrev pub EndedTaking : Type 0
   EndedTaking = (w : State) × (has_ended w ≡ true) × TakesPlace (OfPoll i) (λ v. row Look w ∷ taking v) [] p q
 
@@ -151,7 +151,7 @@ module _ (first : Bool) (i : ℕ) (p q : CellParty) where
   by_end false a (answers_now _ x) k = x
   by_end false _ (waits w e d) k = never k
 
-  -- .. so that it is known what the look has found
+  -- by the answer it is known that the look has claimed the output
   pub look_claims : (a : ℕ) → LooksBy first i p q a → a ≡ 16 → Claimed i (claims_by first) p q
   look_claims a x e = claimed i (claims_by first) p q a (by_end first a x (ap ends_by e)) e
 
@@ -187,7 +187,7 @@ module _ {F T A W K X : Type 0} (woken : W → K → Type 0) (compared : W → W
     subst (λ (l : List Deed). Did l (as_task i) p r) (sym (joined (claims w) notice out)) (did_then p q r (claims w ++ notice) out (TookOutput i) (as_task i) (work_first c.1 []) [] c.6 d),
   )
 
-  -- .. once the awaiter was taken out
+  -- the output is handed out once the awaiter was taken out
   pub takes_and_hands_out : (x : X) (p q r s : Party F T A) → ((w : State) → Done did (claims w)) → (c : ClaimedTaking i claims p q)
       → ((k : List Deed) × TakesOut woken compared awaiter k × DidWith k (TookOutput i) (work_first c.1 []) q r) → did HandOutOutput → Did out (as_task i) r s → EndsPoll (Some x) p s
   takes_and_hands_out x p q r s done c o fact d = let w = c.0 in let t = c.5 in let k : List Deed = o.0 in (
@@ -208,7 +208,7 @@ module _ {F T A W K X : Type 0} (woken : W → K → Type 0) (compared : W → W
     e.4,
   )
 
-  -- .. or it was taken out
+  -- the task has ended, and the awaiter was taken out
   pub takes_and_ends : (p q r : Party F T A) → EndedTaking i claims p q → ((k : List Deed) × TakesOut woken compared awaiter k × Did (k ++ act EndCall ∷ []) (as_task i) q r) → EndsPoll None p r
   takes_and_ends p q r e o = let w = e.0 in let t = e.2 in let k : List Deed = o.0 in (
     row Look w ∷ taking t.0 ++ (k ++ act EndCall ∷ []),
@@ -223,7 +223,7 @@ module _ {X W K : Type 0} (cloned : W → Result W K → Type 0) (woken woken_by
   answers_found _ _ (found_output w taken x h t) = paths.has_output_since w _ x (paths.claims taken h t)
   answers_found _ _ (found_end w taken e t) = paths.has_ended_since w taken e t
 
-  -- .. and the first one
+  -- what the first look has found
   pub polls_found : (path : List Deed) (found : Option X) → EndsLook woken compared awaiter (claims_by true) path found → PollPath cloned woken woken_by_ref compared awaiter path (Ready found)
   polls_found _ _ (found_output w taken x h t) = paths.finds_output w _ x (paths.claims taken h t)
   polls_found _ _ (found_end w taken e t) = paths.finds_ended w taken e t
@@ -259,7 +259,7 @@ module _ {F T A : Type 0} (i : ℕ) (p q : Party F T A) where
   found_notifier _ (stores w _ clone _ e (over old) d) h = differs 21 22 refl refl h
   found_notifier _ (finds_notifier w e d) h = (w, e, d)
 
-  -- .. or came meanwhile
+  -- the clone is taken back, since a notifier came meanwhile
   abbrev pub TakingBack : Bool → Type 0
   TakingBack stood = (clone : A) × DidWith (dropped_if stood ++ act TakeAwaiter ∷ []) (TookBack i) (awaiter_first (Some clone) []) p q
 

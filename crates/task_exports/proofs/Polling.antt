@@ -38,7 +38,7 @@ module _ {F T A : Type 0} where
   pub poll_ends_alone : (i : ℕ) (hand : Option ℕ) (p q r : Party F T A) (found : Option (Held A)) → EndsNotify hand (OfPoll i) [] p q found → found ≡ None → Did (act EndCall ∷ []) (as_task (poll_number (position q))) q r → Releases (OfPoll i) [] (act EndCall ∷ []) (as_task i) 17 p r 17
   poll_ends_alone i hand p q r found x e g = let y = poll_has_none i hand p q found x e in none_there y.0 (poll_ends_after i IsClosed (row EndNotify y.0 ∷ []) p q r y.1 g)
 
-  -- .. and the end of the poll, once it was dealt with
+  -- a poll of a closed task ends, once what lay in the place was dealt with
   pub poll_dealt : (i k : ℕ) (path : List Deed) (p q : Party F T A) → Stands (AwaiterInHand k (OfPoll i)) p → DidWith path (after_waking (way_of (position p))) (places_of p) p q → Did path (Answering i IsClosed) p q
   poll_dealt i k path p q s g = dealt (OfPoll i) k [] path p q s g
 

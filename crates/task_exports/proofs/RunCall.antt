@@ -79,7 +79,7 @@ module _ (Woken : Type 0) where
   abbrev pub Rests : Bool → List Deed → CellParty → CellParty → Type 0
   Rests due before p q = (rest : List Deed) × RestPath Woken due rest × Did (before ++ rest) as_ended p q
 
-  -- .. of one that has taken the awaiter out of its place
+  -- the rest of a run that has taken the awaiter's place
   abbrev pub Takes : CellParty → CellParty → Type 0
   Takes p q = (path : List Deed) × EndsTaken Woken path × Did path as_ended p q
 
@@ -98,7 +98,7 @@ module _ (Woken : Type 0) where
     )
     left_over _ (answers.gives n _ np (answers.none_left w answer y f live d)) e = differs 9 1 refl refl e
 
-    -- .. it was the last handle
+    -- by the answer of an end step: it was the last handle
     pub left_last : (n : ℕ) → GoesOn OfRun due before x k n → n ≡ 9 → IsLive k × IsEmptier false k.party × ((q : CellParty) → Did (empties false) as_ended k.party q → Rests due before x.party q)
     left_last _ (answers.takes w hand y is f live h d) e = differs 7 9 refl refl e
     left_last _ (answers.gives n _ np (answers.others w f gone d)) e = differs 1 9 refl refl e
@@ -110,7 +110,7 @@ module _ (Woken : Type 0) where
           (did_then x.party k.party q _ (empties false) (Emptier None answer) as_ended (awaiter_first y []) [] d g)),
     )
 
-    -- .. the awaiter's place is the party's
+    -- by the answer of an end step: the awaiter's place is the party's
     pub left_taking : (n : ℕ) → GoesOn OfRun due before x k n → n ≡ 7
         → IsLive k × ((awaiter : Option ℕ) × (y : _) × StandsWith (Releaser awaiter OfRun) (awaiter_first y []) k.party × Waits awaiter y) × ((q : CellParty) → Takes k.party q → Rests due before x.party q)
     left_taking _ (answers.takes w hand y is f live h d) e = (live, (hand, y, stands _ _ _ _ _ d, h), λ q t. subst (λ b. Rests b before x.party q) (sym is) (taking_rests w hand y f d q t.0 t.1 t.2))
@@ -133,14 +133,14 @@ module _ (Woken : Type 0) where
     taken_over _ _ (answers.last v w y f live d) e = differs 9 1 refl refl e
     taken_over _ _ (answers.last_wakes v w i y f live d) e = differs 15 1 refl refl e
 
-    -- .. it is to be woken
+    -- by the answer: the awaiter is to be woken
     pub taken_wakes : (awaiter : Option ℕ) (n : ℕ) → Finishes x k awaiter n → n ≡ 8 → IsGone k × Stands as_ended k.party × (Woken → Takes x.party k.party)
     taken_wakes _ _ (answers.over v w f gone d) e = differs 1 8 refl refl e
     taken_wakes _ _ (answers.wakes v w i f gone d) e = (gone, stands _ _ _ _ _ d, λ fact. (_, ends_taken v true (row GiveUpReference w ∷ []) (act WakeAwaiter ∷ []) (paths.leaves_others w f) (paths.woken fact), d))
     taken_wakes _ _ (answers.last v w y f live d) e = differs 9 8 refl refl e
     taken_wakes _ _ (answers.last_wakes v w i y f live d) e = differs 15 8 refl refl e
 
-    -- .. nothing lay there, and it was the last handle
+    -- by the answer: nothing lay there, and it was the last handle
     pub taken_last : (awaiter : Option ℕ) (n : ℕ) → Finishes x k awaiter n → n ≡ 9 → IsLive k × IsEmptier false k.party × ((q : CellParty) → Did (empties false) as_ended k.party q → Takes x.party q)
     taken_last _ _ (answers.over v w f gone d) e = differs 1 9 refl refl e
     taken_last _ _ (answers.wakes v w i f gone d) e = differs 8 9 refl refl e
@@ -151,7 +151,7 @@ module _ (Woken : Type 0) where
     )
     taken_last _ _ (answers.last_wakes v w i y f live d) e = differs 15 9 refl refl e
 
-    -- .. and it is to be woken once the places are empty
+    -- by the answer: the awaiter is to be woken once the places are empty
     pub taken_last_wakes : (awaiter : Option ℕ) (n : ℕ) → Finishes x k awaiter n → n ≡ 15 → IsLive k × IsEmptier true k.party × ((q : CellParty) → Did (empties true) as_ended k.party q → Woken → Takes x.party q)
     taken_last_wakes _ _ (answers.over v w f gone d) e = differs 1 15 refl refl e
     taken_last_wakes _ _ (answers.wakes v w i f gone d) e = differs 8 15 refl refl e
@@ -239,7 +239,7 @@ module _ (Woken : Type 0) where
       abbrev pub Pended : Bool → CellParty → CellParty → Type 0
       Pended answer p q = (path : List Deed) × PendingPath Woken Scheduled answer path × Done did path × Did path as_ended p q
 
-      -- .. of a task that was closed meanwhile
+      -- a run whose task was closed while its poll was pending
       abbrev pub Cleared : CellParty → CellParty → Type 0
       Cleared p q = (w : State) × (rest : List Deed) × (w.closed ≡ true) × RestPath Woken w.awaiter rest × Did (row EndClosed w ∷ rest) as_ended p q
 
@@ -280,7 +280,7 @@ module _ (Woken : Type 0) where
         abbrev pub Runs : Bool → CellParty → CellParty → Type 0
         Runs answer p q = (path : List Deed) × RunPath Polled Woken Scheduled answer path × Done did path × Did path as_ended p q
 
-        -- .. of a task that was closed before, after it has taken the future over
+        -- a run of a task that was closed before, after it has taken the future over
         abbrev pub Closes : CellParty → CellParty → Type 0
         Closes p q = (w : State) × (rest : List Deed) × RestPath Woken w.awaiter rest × Did (row Unschedule w ∷ rest) as_ended p q
 
@@ -308,7 +308,7 @@ module _ (Woken : Type 0) where
           starts _ (answers.polls live (starting.starts w y a f d)) e = (live, polls w y a f d)
           starts _ (answers.finds_closed live t) e = differs 4 3 refl refl e
 
-          -- .. by the handle, which it was lent
+          -- the future is polled by the handle that it was lent
           pub is_polling : (p : CellParty) → p ≡ k.party → Polls → (y : _) × StandsWith Polling (work_first y []) p × IsFuture unknown y
           is_polling p e (polls w y a f d) = (y, subst (λ r. StandsWith Polling (work_first y []) r) (sym e) (stands _ _ _ _ _ d), f)
 

@@ -18,7 +18,7 @@ module _ {M : Type 1} {𝓤 : Ura M} (𝓛 : Logic 𝓤) (κ : Lft) (x : Lent) (
   abbrev pub shown : Fml
   shown = shared_of Row x b o κ
 
-  -- .. shows what one to its pointer has
+  -- it shows what a `&` to the pointer has
   pub shows_bits : ent 𝓤 (sem 𝓛 shown) (sep 𝓤 (sem 𝓛 (hidden_shr RawPtr κ x.share.block.at b o)) (sem 𝓛 shown))
   shows_bits =
       qed 𝓛 (‵ shown ∷ []) ∵ use1 𝓛 (‵ shown ⊛ ‵ shown) (contraction 𝓛 (shared_of Row x b o) (laws.shr_laws x b o) κ) $ split ! $
@@ -34,6 +34,6 @@ module _ {M : Type 1} {𝓤 : Ura M} {𝓛 : Logic 𝓤} {K : Type 0} {Γ : List
       looks t z RawPtr (plain_Copied 𝓛 Ptr coded_ptr (ty_ptr ∷ []) ptr_own rawptr_pure ptr_val RawPtr-laws.tells).opens p b o (λ s vs. move t (1 ∷ []) $ feq_l t (λ e.
       rewrite t 0 (λ (us : List Val). ‵ (cell_at s RawPtr.mir us b o)) e refl $ move t (2 ∷ []) $ drop t $ k s))
 
-  -- .. and shut
+  -- the pointer is shut again
   pub bits_out : K → Soaks G → {κ : Lft} {q s : Share} (p : Ptr) (b o : ℕ) → Step K 𝓛 (‵ (flft κ q) ∷ Γ) G (‵ (fat s ty_ptr b o (ptr_val p)) ∷ Shut 𝓛 κ q (part_at RawPtr s p b o) ∷ Γ) G
   bits_out t z {s = s} p b o = step (λ k. feq_i t (List Val) (ptr_val p ∷ []) (ptr_val p ∷ []) refl $ move t (1 ∷ 0 ∷ []) $ shuts t z RawPtr s p (ptr_val p ∷ []) b o $ k)

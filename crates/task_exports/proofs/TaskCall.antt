@@ -34,7 +34,7 @@ module _ (x k : Hand) where
   rest_over _ (answers.leaves_others w f gone d) e = (gone, stands _ _ _ _ _ d, (_, paths.leaves_others w f, d))
   rest_over _ (answers.leaves_none w z f b d) e = differs 9 1 refl refl e
 
-  -- .. it was the last handle
+  -- by the answer: it was the last handle
   pub rest_last : (n : ℕ) → EndsDetach x k n → n ≡ 9 → IsLive k × IsEmptier false k.party × ((q : CellParty) → Did (empties false) as_ended k.party q → Rests x.party q)
   rest_last _ (answers.leaves_others w f gone d) e = differs 1 9 refl refl e
   rest_last _ (answers.leaves_none w z f b d) e = (
@@ -61,14 +61,14 @@ module _ (Scheduled : Type 0) (did : Act → Type 0) where
     pub detach_hands_on : (ended : CellParty) (n : ℕ) → Detaches x k (Some ended) n → IsLive k × Stands as_runnable k.party × (Scheduled → Detached x.party ended)
     detach_hands_on _ _ (answers.is_orphaned w ended f d b at) = (b.0, at, λ fact. (_, paths.is_orphaned w f fact, (tt, (tt, (tt, tt))), d))
 
-    -- .. the call has ended
+    -- by the answer: the call has ended
     pub detach_over : (n : ℕ) → Detaches x k None n → n ≡ 1 → IsGone k × Stands as_ended k.party × Detached x.party k.party
     detach_over _ (answers.detach_missed _) e = differs 0 1 refl refl e
     detach_over _ (answers.is_shared w f gone d) e = (gone, stands _ _ _ _ _ d, (_, paths.is_shared w f, (tt, (tt, tt)), d))
     detach_over _ (answers.is_last w z f b d) e = differs 9 1 refl refl e
     detach_over _ (answers.is_unclaimed w z f o b d) e = differs 5 1 refl refl e
 
-    -- .. it was the last handle
+    -- by the answer: it was the last handle
     pub detach_last : (n : ℕ) → Detaches x k None n → n ≡ 9 → IsLive k × IsEmptier false k.party × ((q : CellParty) → Did (empties false) as_ended k.party q → Detached x.party q)
     detach_last _ (answers.detach_missed _) e = differs 0 9 refl refl e
     detach_last _ (answers.is_shared w f gone d) e = differs 1 9 refl refl e
@@ -79,7 +79,7 @@ module _ (Scheduled : Type 0) (did : Act → Type 0) where
     )
     detach_last _ (answers.is_unclaimed w z f o b d) e = differs 5 9 refl refl e
 
-    -- .. nobody has claimed the output
+    -- by the answer: nobody has claimed the output
     pub detach_unclaimed : (n : ℕ) → Detaches x k None n → n ≡ 5
         → IsLive k × ((z : _) × StandsWith OutputCloser (work_first z []) k.party) × (saw_closed (deeds k.party) ≡ true) × (did DropOutput → (q : CellParty) → Rests k.party q → Detached x.party q)
     detach_unclaimed _ (answers.detach_missed _) e = differs 0 5 refl refl e

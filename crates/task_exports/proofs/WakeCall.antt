@@ -34,7 +34,7 @@ pub came : (Says : Hand → ℕ → Type 0) (o : Option Hand) (n : ℕ) (k : Han
 came Says _ _ k comes_none e = absurd (cc)
 came Says _ _ k (comes n x s) e = subst (λ z. Says z n) (same_held x k e) s
 
--- .. has the same bits, and comes with each answer but that of tries that have missed
+-- what a wake has brought has the same bits, and comes with each answer but 0; so does what a gain has brought
 pub woken_bits : (x y : Hand) (o : Option Hand) (n : ℕ) → SameBits x y → Comes (λ k m. Wakes x k m) o n → IfSome o (λ k. SameBits y k)
 woken_bits x y _ _ b comes_none = tt
 woken_bits x y _ _ b (comes _ k (nothing path p r)) = r.0.1 ∙ sym b

@@ -130,7 +130,7 @@ pub data Puts (Says : Hand → ℕ → Type 0) (k : Handle) : ℕ → Type 0 whe
   puts_none : k.there ≡ false → Puts Says k 0
   puts : (n : ℕ) → k.there ≡ true → Says k.hand n → Puts Says k n
 
--- .. or has brought
+-- what a call has brought into a place, unless each of its tries has missed
 pub data Comes (Says : Hand → ℕ → Type 0) : Option Hand → ℕ → Type 0 where
   comes_none : Comes Says None 0
   comes : (n : ℕ) (k : Hand) → Says k n → Comes Says (Some k) n

@@ -42,7 +42,7 @@ pub data LeavesPath (Woken : Type 0) : Bool → List Deed → Type 0 where
   leaves : (due taken : Bool) (n k r : List Deed) → NotifyPath due taken n → WakePath Woken taken k → ReleasePath r
       → LeavesPath Woken due (n ++ (k ++ (r ++ act EndCall ∷ [])))
 
--- .. which has the awaiter's place
+-- the rest of a Runnable's drop that has the awaiter's place
 pub data WakesAndLeaves (Woken : Type 0) : List Deed → Type 0 where
   wakes_and_leaves : (v : State) (taken : Bool) (k r : List Deed) → WakePath Woken taken k → ReleasePath r
       → WakesAndLeaves Woken (row EndNotify v ∷ (k ++ (r ++ act EndCall ∷ [])))
@@ -52,7 +52,7 @@ abbrev pub LooksBy : Bool → ℕ → CellParty → CellParty → ℕ → Type 0
 LooksBy true i p q r = Polls i p q r
 LooksBy false i p q r = LooksOn i p q r
 
--- .. by which deeds it claims the output
+-- the deeds by which that look claims the output
 abbrev pub claims_by : Bool → State → List Deed
 claims_by true = λ w. row ClaimOutput w ∷ []
 claims_by false = λ w. row Look w ∷ row ClaimOutput w ∷ []
@@ -102,7 +102,7 @@ Asked did HandOutOutput = did HandOutOutput
 Asked did StoreAwaiter = did StoreAwaiter
 Asked did _ = ⊤
 
--- .. of each such act of a path
+-- the fact of each act of a path in such a place
 abbrev pub Done : (Act → Type 0) → List Deed → Type 0
 Done did [] = ⊤
 Done did (d ∷ path) = Asked did d.act × Done did path

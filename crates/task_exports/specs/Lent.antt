@@ -34,6 +34,6 @@ CellShare = type_of (λ (x : Lent). x.share)
 abbrev pub IsOfCell : Hand → CellShare → Type 0
 IsOfCell x share = (share.block.id ≡ x.share.maybe.id) × (share.block.key ≡ x.share.maybe.key) × (share.block.value ≡ x.share.maybe.value)
 
--- .. which is lent
+-- the share that is lent is of this hand's cell
 abbrev pub IsShareOf : Hand → Lent → Type 0
 IsShareOf x lent = IsOfCell x lent.share

@@ -33,7 +33,7 @@ limit_at x = x.share.maybe.key.limit
 abbrev pub Stays : Hand → Hand → Type 0
 Stays x y = (y.share.maybe.there ≡ true) × SameBits x y × (y.share.maybe.value ≡ x.share.maybe.value) × (limit_at y ≡ limit_at x)
 
--- .. and lies in the place as before
+-- a share of the same cell lies in the place as before
 abbrev pub Keeps : Handle → Handle → Type 0
 Keeps h k =
     (k.there ≡ true) × (k.hand.share.maybe.there ≡ true) × SameBits h.hand k.hand × (k.hand.share.maybe.value ≡ h.hand.share.maybe.value)

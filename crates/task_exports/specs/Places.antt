@@ -26,11 +26,11 @@ owned x = fex Val (λ v. hand_row.own_val x (v ∷ []))
 abbrev pub address_of : Ptr → hand_row.Denot → Fml
 address_of p x = fex (p ≡ place x.share.maybe.id) (λ _. ftrue)
 
--- .. where its bits are this address
+-- what a handle owns whose bits are the address of its block
 abbrev pub owned_at : Ptr → hand_row.Denot → Fml
 owned_at p x = fsep (address_of p x) (owned x)
 
--- .. where there is one
+-- the same where there is such a handle
 abbrev pub owned_if : Option hand_row.Denot → Fml
 owned_if None = ftrue
 owned_if (Some x) = owned x

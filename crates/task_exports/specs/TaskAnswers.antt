@@ -56,11 +56,11 @@ module _ {F T A : Type 0} where
   abbrev pub AtPlace : NotifyingCall → List (ℕ × TaskPlace F T A) → Party F T A → Type 0
   AtPlace way held p = (hand : Option ℕ) × (y : Option A) × Waits hand y × StandsWith (Releaser hand way) (awaiter_first y held) p
 
-  -- .. or what lay there is in hand
+  -- what lay in the place of the awaiter is in hand
   abbrev pub InHand : NotifyingCall → List (ℕ × TaskPlace F T A) → Party F T A → Type 0
   InHand way held p = (i : ℕ) × StandsWith (AwaiterInHand i way) held p
 
-  -- .. or it is the party's after this path, by the word that it was taken on
+  -- the place is the party's after this path, by the word that it was taken on
   abbrev pub TakesPlace : NotifyingCall → (State → List Deed) → List (ℕ × TaskPlace F T A) → Party F T A → Party F T A → Type 0
   TakesPlace way path held p q =
       (v : State) × (hand : Option ℕ) × (y : Option A) × Fits BeginNotify v × Waits hand y
@@ -70,7 +70,7 @@ module _ {F T A : Type 0} where
   abbrev pub HasStored : ℕ → Bool → Party F T A → Type 0
   HasStored i stood p = (old : Option ℕ) × (clone : A) × (is_some old ≡ stood) × StandsWith (after_storing i old) (awaiter_first (Some clone) []) p
 
-  -- .. it was put there
+  -- the clone of poll i was put into the place of the awaiter
   abbrev pub PutsIn : ℕ → Option ℕ → Party F T A → Party F T A → ℕ → Type 0
   PutsIn i old p q r = IsStored old r × (clone : A) × DidWith [] (after_storing i old) (awaiter_first (Some clone) []) p q
 
@@ -103,7 +103,7 @@ module _ {F T A : Type 0} where
     schedules_due : (w : State) → Fits CancelIdle w → w.awaiter ≡ true
         → Did (row CancelIdle w ∷ act HandOver ∷ []) (notifies true (OfCancel n)) p q → Cancels n p q 25
 
-  -- .. once the Runnable was scheduled that it handed over
+  -- a cancel goes on once the Runnable was scheduled that it handed over
   pub data CancelGoesOn (due : Bool) (n : ℕ) (p q : Party F T A) : ℕ → Type 0 where
     passes_by : (notice : List Deed) → PassesBy due notice → Did (notice ++ act EndCall ∷ []) (as_task n) p q → CancelGoesOn due n p q 12
     takes : due ≡ true → TakesPlace (OfCancel n) taking [] p q → CancelGoesOn due n p q 7
@@ -149,7 +149,7 @@ module _ {F T A : Type 0} where
     answers_now : (r : ℕ) → Answers i (λ w. row Look w ∷ row ClaimOutput w ∷ []) p q r → LooksOn i p q r
     waits : (w : State) → has_to_wait w ≡ true → Did (row Look w ∷ act EndCall ∷ []) (as_task i) p q → LooksOn i p q 18
 
-  -- .. after this path
+  -- the look of a poll that has registered, after this path
   abbrev pub LooksAfter : ℕ → List Deed → Party F T A → Party F T A → ℕ → Type 0
   LooksAfter i path p q r = (between : Party F T A) × Did path (Looking i) p between × LooksOn i between q r
 
@@ -193,7 +193,7 @@ pub data Detaches (x y : Hand) : Option CellParty → ℕ → Type 0 where
       → Did (row DetachOrphan w ∷ act HandOver ∷ act EndCall ∷ []) as_ended x.party ended → Becomes x y → Stands as_runnable y.party
       → Detaches x y (Some ended) 10
 
--- .. once the output was dropped
+-- the end of a detach once the output was dropped
 pub data EndsDetach (x y : Hand) : ℕ → Type 0 where
   leaves_others : (w : State) → Fits Detach w → IsGone y → Did (act DropOutput ∷ row Detach w ∷ act EndCall ∷ []) as_ended x.party y.party
       → EndsDetach x y 1
@@ -204,7 +204,7 @@ pub data EndsDetach (x y : Hand) : ℕ → Type 0 where
 abbrev pub IsRunnableAt : BlockId × Cell Unit Unit Unit Global → Hand → Type 0
 IsRunnableAt cell x = IsLive x × (cell_in x ≡ cell) × Stands as_runnable x.party
 
--- .. lies in the place, where this is so, and else nothing
+-- a Runnable of this cell lies in the place, where this is so, and else nothing
 abbrev pub HasRunnable : Bool → BlockId × Cell Unit Unit Unit Global → Handle → Type 0
 HasRunnable true cell k = (k.there ≡ true) × IsRunnableAt cell k.hand
 HasRunnable false cell k = k.there ≡ false

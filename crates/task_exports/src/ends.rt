@@ -36,7 +36,7 @@ pub(crate) fn give_back(hand: Hand) -> (Hand, u32)
     (Hand { share, party }, OVER)
 }
 
-// Begins to take the awaiter where one is due: whether its place is the party's now.
+// Begins to take the awaiter where one is due, and answers whether its place is the party's now.
 fn begin_due(hand: Hand, due: bool) -> (Hand, bool)
     requires hand { IsLive hand }
     requires party { (way : NotifyingCall) × Stands (notifies due way) hand.party }

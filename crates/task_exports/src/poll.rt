@@ -68,7 +68,7 @@ impl Step for PollTaken {
     }
 }
 
-/// .. and was woken.
+/// The awaiter of a poll that has found the task closed was woken.
 #[derive(Drop)]
 pub struct PollWoken;
 
@@ -84,7 +84,7 @@ impl Step for PollWoken {
     }
 }
 
-/// .. or was dropped, since its wake would wake the caller.
+/// That awaiter was dropped, since its wake would wake the caller.
 #[derive(Drop)]
 pub struct PollDropped;
 
@@ -120,7 +120,7 @@ impl Step for ClaimTaken {
     }
 }
 
-/// .. and was woken.
+/// The awaiter of a poll that has claimed the output was woken.
 #[derive(Drop)]
 pub struct ClaimWoken;
 
@@ -135,7 +135,7 @@ impl Step for ClaimWoken {
     }
 }
 
-/// .. or was dropped, since its wake would wake the caller.
+/// That awaiter was dropped, since its wake would wake the caller.
 #[derive(Drop)]
 pub struct ClaimDropped;
 

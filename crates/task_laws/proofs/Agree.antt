@@ -48,7 +48,7 @@ refused_step : (limit : ℕ) (w : Whole) (s : Step) (p : Position) (x : Option O
 refused_step limit w s p None m = tt
 refused_step limit w s p (Some o) m = rw m tt
 
--- .. an ordinary one
+-- an ordinary step of a party, when it has been seen who it is
 plain_step : (limit : ℕ) (w : Whole) (s : Step) (p : Position) (below : List ℕ) (x : Option Outcome) → may_step w s.party p ≡ true → w.machine.limit ≡ limit → slice_get w.machine.parties s.party ≡ Some p
     → opened s.party p s.act (length w.machine.parties) w.stack ≡ s.party ∷ below → Stays (after w.machine s.party p x)
     → GoesAfter limit w.machine s.party p s.act below (if w.cut then move_of p s.act ∷ w.moves else w.moves) x → Steps limit w s p x

@@ -93,7 +93,7 @@ before limit c slots (AwaiterInHand j (OfPoll i)) act = go c (frame_of (AwaiterI
 before limit c slots (AwaiterInHand j (OfClaim i)) act = go c (frame_of (AwaiterInHand j (OfClaim i))) (says_yes act)
 before limit c slots p act = ahead c slots p
 
--- .. and after it: the segment has ended, or goes on
+-- after a step: the segment has ended, or goes on
 abbrev pub landed : AbstractCell → Slots → Bool → Position → SegmentEnd
 landed c slots true q = stops c [] (frame_of q)
 landed c slots false q = ahead c slots q

@@ -61,7 +61,7 @@ begin_notify scene rest notifying wanted stored references is_found = record {
 abbrev Tracked : (act : Act) (p : Position) (put : Scene → Scene) → Type 0
 Tracked act p put = InEach (λ scene. Shows Tracks act p (put scene))
 
--- .. and these by themselves, since one declaration has one limit of steps
+-- These rows stand by themselves, since one declaration has one limit of steps.
 last_waker_drops : Tracked DropLastWaker (At Waker) as_found
 last_waker_drops = by_counts DropLastWaker (At Waker) (by_flag task (grind rules) (grind rules))
 

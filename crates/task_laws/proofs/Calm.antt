@@ -78,7 +78,7 @@ pub record Calm (w : State) (slots : Slots) (cut : Bool) (p : Position) : Type 0
   pub finished : drops_output p ≡ true → w.completed ≡ true
   pub output : has_stored p ≡ false → slots.output ≡ true → w.completed ≡ true
 
--- .. and what the counts of the handshake say of the party itself
+-- what the counts of the handshake say of the party itself
 pub record Counted (w : State) (slots : Slots) (p : Position) : Type 0 where
   pub own : is_registered p ≡ true → slots.awaiter ≡ None → ⊥
   pub at_work : registers p ≡ true → w.registering ≡ true

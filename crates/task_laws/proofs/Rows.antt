@@ -19,7 +19,7 @@ use Rattle.task_laws.proofs.Scenes.{InEach, scheduled, running, completed, close
 abbrev pub as_found : Scene → Scene
 as_found scene = scene
 
--- .. or of one in which these flags are so
+-- a scene in which these flags are so
 abbrev closed_queued : Scene → Scene
 closed_queued scene = closed.put true (scheduled.put true scene)
 

@@ -28,7 +28,7 @@ put_born [] i p q born e = cc
 put_born (x ∷ ps) zero p q born e = grind (arith, census-append ps born)
 put_born (x ∷ ps) (suc i) p q born e = grind (arith, put_born ps i p q born e)
 
--- .. and the same for the handshake
+-- the handshake of all parties but number i
 awaiting-append : (i : ℕ) (ps qs : List Position) → awaiting i (ps ++ qs) ≡ join (awaiting i ps) (awaiting i qs)
 awaiting-append i [] qs = grind arith
 awaiting-append i (p ∷ ps) qs = grind (arith, awaiting-append i ps qs)

@@ -298,7 +298,7 @@ goes_on_here limit m i p act stack moves e u h c =
     or_right : (b : Bool) → (b || true) ≡ true
     or_right b = grind arith
 
--- .. and within its segment
+-- the innermost call goes on within its segment
 pub goes_within : (limit : ℕ) (m : Machine) (i : ℕ) (p : Position) (act : Act) (stack : List ℕ) (moves : List Move) → queues act ≡ false → Invariant m → Within limit m i p stack moves → GoesAfter limit m i p act stack moves (rule (scene m) act p)
 goes_within limit m i p act stack moves u h c =
     step_goes limit m i p act stack moves false c.stands_at u h c.calm c.fresh c.good

@@ -44,7 +44,7 @@ closed_task_completes = refl
 wake_is_owed : Tried (does 1 (Look ∷ CloneAwaiter ∷ BeginRegister ∷ StoreAwaiter ∷ EndRegister ∷ Look ∷ EndCall ∷ Look ∷ CloneAwaiter ∷ BeginRegister ∷ StoreAwaiter ∷ DropAwaiter ∷ []) (does 0 (DiscardOpen ∷ DropFuture ∷ Unschedule ∷ MissNotify ∷ GiveUpReference ∷ EndCall ∷ []) (does 1 (TakeAwaiter ∷ EndRegisterNotified ∷ WakeAwaiter ∷ []) [])))
 wake_is_owed = refl
 
--- .. and goes on to its end
+-- the same run goes on to its end
 owed_wake_is_made : Tried (does 1 (Look ∷ CloneAwaiter ∷ BeginRegister ∷ StoreAwaiter ∷ EndRegister ∷ Look ∷ EndCall ∷ Look ∷ CloneAwaiter ∷ BeginRegister ∷ StoreAwaiter ∷ DropAwaiter ∷ []) (does 0 (DiscardOpen ∷ DropFuture ∷ Unschedule ∷ MissNotify ∷ GiveUpReference ∷ EndCall ∷ []) (does 1 (TakeAwaiter ∷ EndRegisterNotified ∷ WakeAwaiter ∷ Look ∷ BeginNotify ∷ TakeAwaiter ∷ EndNotify ∷ EndCall ∷ []) [])))
 owed_wake_is_made = refl
 

@@ -53,7 +53,7 @@ pub record SegmentEnd : Type 0 where
 abbrev pub stops : AbstractCell → List Event → Frame → SegmentEnd
 stops c told f = record { cell = c; told = told; frame = Some f }
 
--- .. or with its call; a call that answers nothing tells nothing
+-- a segment ends with its call; a call that answers nothing tells nothing
 abbrev pub answered : Answer → List Event → List Event
 answered Nothing told = told
 answered answer told = CallEnds answer ∷ told
@@ -87,7 +87,7 @@ emptied c = empties_if (none_left c.held c.task) (becomes c.task)
 abbrev pub empties : AbstractCell → List Event → Answer → SegmentEnd
 empties c told answer = ends (with_task c (emptied c).task) (told_emptied (emptied c) told) answer
 
--- .. and an awaiter in hand is woken then
+-- the call ends, and wakes the awaiter in hand last
 abbrev pub wakes_last : AbstractCell → Option ℕ → List Event → Answer → SegmentEnd
 wakes_last c (Some i) told answer = stops c (woken i told) (Ends answer)
 wakes_last c None told answer = ends c told answer
@@ -104,7 +104,7 @@ gives_up c hand told answer = gives_up_held (record c { held = false }) hand tol
 abbrev pub takes_due : AbstractCell → AbstractCell
 takes_due c = if c.storing then record c { owed = true } else record c { task = record (c.task) { awaiter = without_due c.task.awaiter } }
 
--- .. and is in hand, to be woken
+-- the due awaiter in hand, to be woken
 abbrev pub in_hand : AbstractCell → Option ℕ
 in_hand c = if c.storing then None else due c.task.awaiter
 
@@ -150,7 +150,7 @@ answer_events i answer = TaskPollEnds i answer ∷ []
 abbrev pub answers : AbstractCell → List Event → ℕ → PollAnswer → SegmentEnd
 answers c told i answer = record { cell = c; told = answer_events i answer ++ told; frame = None }
 
--- .. where an awaiter was stored, `will_wake` is asked first
+-- the segment of a poll that finds an awaiter stored, of which `will_wake` is asked first
 abbrev pub asks : AbstractCell → ℕ → PollAnswer → Option ℕ → SegmentEnd
 asks c i answer (Some j) = stops c [] (Asks i answer j)
 asks c i answer None = answers c [] i answer

@@ -22,7 +22,7 @@ may_ask Lent = true
 may_ask Ended = false
 may_ask (Task i) = false
 
--- .. and is gained by a lent waker of a task that has a handle
+-- a reference is gained by a lent waker of a task that has a handle
 abbrev pub may_gain : Scene → Rest → Bool
 may_gain s Lent = is_held s.word
 may_gain s r = may_ask r

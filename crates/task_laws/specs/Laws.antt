@@ -79,7 +79,7 @@ pub record MayBegin (earlier : List Event) : Type 0 where
   pub not_dropped : how_often FutureDropped earlier ≡ 0
   pub not_taken_up_closed : taken_up_closed earlier ≡ false
 
--- .. and when it may answer, and the future be dropped; the last line asks nothing of other events
+-- when a poll of the future may answer, and the future be dropped; the last line asks nothing of other events
 abbrev pub MayPoll : Event → List Event → Type 0
 MayPoll FuturePollBegins earlier = MayBegin earlier
 MayPoll FuturePending earlier = how_often FuturePollBegins earlier ≡ count is_future_answer earlier + 1

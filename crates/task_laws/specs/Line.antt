@@ -93,14 +93,14 @@ leaves s v (Some l) = when (holds s l.guard)
 abbrev pub moves_to : Position → List Event → Line
 moves_to p told = record { guard = Always; slots = KeepsSlots; next = MovesTo p; born = []; told = told; also = NothingElse }
 
--- .. to a position that hangs on what it finds
+-- the party goes on to a position that hangs on what it finds
 abbrev pub moves_on : Next → List Event → Line
 moves_on next told = record { guard = Always; slots = KeepsSlots; next = next; born = []; told = told; also = NothingElse }
 
--- .. and adds a party
+-- the same, and a party is added
 abbrev pub adds : Position → Position → List Event → Line
 adds p born told = record { guard = Always; slots = KeepsSlots; next = MovesTo p; born = born ∷ []; told = told; also = NothingElse }
 
--- .. and changes a slot
+-- the same, and a slot changes
 abbrev pub changes : SlotEdit → Position → List Event → Line
 changes edit p told = record { guard = Always; slots = edit; next = MovesTo p; born = []; told = told; also = NothingElse }

@@ -32,7 +32,7 @@ after_handing_over (ThenEnds answer) = CallEnding answer Ended
 after_handing_over (ThenTask n) = CallEnding Nothing (Task n)
 after_handing_over (ThenNotifies n) = Notifier (OfCancel n)
 
--- .. and once the awaiter in hand was woken or dropped
+-- the way on once the awaiter in hand was woken or dropped
 abbrev pub after_waking : NotifyingCall → Position
 after_waking OfRun = CallEnding (Ran false) Ended
 after_waking OfDrop = GivingUp None Nothing
@@ -40,7 +40,7 @@ after_waking (OfCancel n) = CallEnding Nothing (Task n)
 after_waking (OfPoll n) = Answering n IsClosed
 after_waking (OfClaim n) = TookOutput n
 
--- .. and once the reference was given up
+-- the way on once the reference was given up
 abbrev pub after_giving_up : Option ℕ → Answer → Position
 after_giving_up (Some i) answer = AwaiterInHand i OfRun
 after_giving_up None answer = CallEnding answer Ended

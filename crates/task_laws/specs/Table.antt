@@ -13,7 +13,7 @@ use Rattle.task_laws.specs.Lines.{line}
 abbrev pub outcome_at : Scene → State → Act → Position → Option Outcome
 outcome_at s v act p = leaves s v (line act p)
 
--- .. where the word found is the row's
+-- a line of the table is taken where the word found is the row's
 abbrev pub where_found : Bool → Option Outcome → Option Outcome
 where_found b None = None
 where_found b (Some o) = when b o

@@ -21,7 +21,7 @@ use Rattle.task_laws.specs.Abstract.{Detaches, GivesUp, TakesOfCancel, Ends, Clo
 use Rattle.task_laws.specs.Abstract.{Abstract, all_moved}
 use Rattle.task_laws.specs.Abstract
 
--- A run is cut after the acts in which foreign code runs ..
+-- A run is cut after the acts in which foreign code runs.
 abbrev pub is_foreign : Act → Bool
 is_foreign StartPoll = true
 is_foreign DropFuture = true
@@ -31,7 +31,7 @@ is_foreign DropAwaiter = true
 is_foreign HandOver = true
 is_foreign _ = false
 
--- .. and before a clone and a question of `will_wake`
+-- a run is cut before a clone and a question of `will_wake`
 abbrev pub asks_foreign : Position → Bool
 asks_foreign (Registrar i) = true
 asks_foreign (AwaiterInHand i (OfPoll n)) = true

@@ -9,7 +9,7 @@ abbrev pub to_next : SegmentEnd → Option Frame → Bool → SegmentEnd
 to_next l None answer = l
 to_next l (Some f) answer = let next = go l.cell f answer in record next { told = next.told ++ l.told }
 
--- .. with an answer of foreign code at each mark
+-- the call goes on with an answer of foreign code at each mark
 abbrev pub alone : SegmentEnd → List Bool → SegmentEnd
 alone l [] = l
 alone l (answer ∷ answers) = alone (to_next l l.frame answer) answers

@@ -37,7 +37,7 @@ pub enum Rest {
     Lent,
     /// A party that has given up all that it had.
     Ended,
-    /// The Task, which has begun so many polls.
+    /// The Task, with how many polls it has begun.
     Task(u64),
 }
 
@@ -57,7 +57,7 @@ pub enum NotifyingCall {
     OfRun,
     /// In the drop of a Runnable.
     OfDrop,
-    /// In a cancel, by a Task that has begun so many polls.
+    /// In a cancel, by a Task, with how many polls that has begun.
     OfCancel(u64),
     /// In the poll of this number, which answers ready without output.
     OfPoll(u64),
@@ -70,9 +70,9 @@ pub enum NotifyingCall {
 pub enum OnceDelivered {
     /// Its call ends with this answer, and the party with it.
     ThenEnds(Answer),
-    /// Its call ends, and the party is the Task that has begun so many polls.
+    /// Its call ends, and the party is the Task, with how many polls that has begun.
     ThenTask(u64),
-    /// The Task that has begun so many polls takes the awaiter.
+    /// The Task takes the awaiter, with how many polls it has begun.
     ThenNotifies(u64),
 }
 
@@ -93,9 +93,9 @@ pub enum Position {
     Pending,
     /// A run whose poll answered Ready.
     Ready,
-    /// .. which has dropped the future,
+    /// A run whose poll answered Ready, and which has dropped the future.
     ReadyFutureDropped,
-    /// .. and has stored the output.
+    /// A run whose poll answered Ready, and which has stored the output.
     OutputStored,
     /// A run whose poll answered Pending, and which has dropped the future of a closed task.
     PendingFutureDropped,

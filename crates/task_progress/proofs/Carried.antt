@@ -97,7 +97,7 @@ due_wakes_are_carried limit steps m e owed = let h : Invariant m = subst Stays e
   λ s p now at is. subst (StepCarries m s.act p) (sym (ap (moves m s.party s.act) at) ∙ is) (moves_carries m s.party s.act p at h owed),
 )
 
--- .. and over a list of steps
+-- what is owed over a list of steps
 abbrev Led : Machine → List Step → Machine → Type 0
 Led m later now = IsOwed now × (total distance now.parties + carried (Some m) later ≤ total distance m.parties)
 

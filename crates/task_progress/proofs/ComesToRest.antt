@@ -136,7 +136,7 @@ runs_both : (a b : List Step) → runs_in (a ++ b) ≡ runs_in a + runs_in b
 runs_both [] b = omega arith
 runs_both (s ∷ a) b = omega (arith, runs_both a b)
 
--- no call in progress and no Runnable, after so many steps and so many calls, which are runs
+-- no call in progress and no Runnable, after some number of steps and of calls, which are runs
 pub record Reaches (m : Machine) (most calls : ℕ) : Type 0 where
   pub steps : List Step
   pub now : Machine

@@ -68,7 +68,7 @@ registering limit = known (run limit registers)
 abbrev miss : Step
 miss = record { party = 0; act = MissNotify }
 
--- .. and after its first miss
+-- the same after its first miss
 abbrev missed : ℕ → Machine
 missed limit = known (step_by looks_again (registering limit) miss)
 

@@ -104,7 +104,7 @@ abbrev pub LockFree : Type 0
 LockFree =
     (c : WithSeen) (attempts : List Attempt) (now : WithSeen) → attempts_from (Some c) attempts ≡ Some now → AttemptsBounded c attempts now
 
--- .. and from a look of a party on, as it makes in each call that tries an exchange, it misses at most as often as others write the word
+-- from a look of a party on, as it makes in each call that tries an exchange, it misses at most as often as others write the word
 abbrev pub MissesAfterLook : Type 0
 MissesAfterLook = (c : WithSeen) (i : ℕ) (attempts : List Attempt) (now : WithSeen) → attempts_from (Some c) (Looks i ∷ attempts) ≡ Some now
     → misses_of i attempts ≤ writes_by_others i attempts

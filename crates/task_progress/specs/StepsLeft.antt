@@ -39,7 +39,7 @@ steps_on (OfCancel n) = 1
 steps_on (OfPoll n) = 1
 steps_on (OfClaim n) = 2
 
--- .. and once the awaiter in hand was woken or dropped
+-- steps left on a way once the awaiter in hand was woken or dropped
 abbrev pub steps_off : NotifyingCall → ℕ
 steps_off OfRun = 1
 steps_off OfDrop = 3
@@ -94,7 +94,7 @@ writes_on (OfCancel n) = 0
 writes_on (OfPoll n) = 0
 writes_on (OfClaim n) = 0
 
--- .. and once the awaiter in hand was woken or dropped
+-- writes left on a way once the awaiter in hand was woken or dropped
 abbrev pub writes_off : NotifyingCall → ℕ
 writes_off OfDrop = 1
 writes_off _ = 0

@@ -56,7 +56,7 @@ abbrev pub FallsBy : Table → (Position → ℕ) → Type 0
 FallsBy table left =
     (s : Scene) (act : Act) (p : Position) (o : Outcome) → in_call p ≡ 1 → table s act p ≡ Some o → left o.next + 1 ≤ left p
 
--- .. and with one number for each call begun it bounds the steps, as `steps_left` and 16 do
+-- such a number with one more for each call begun bounds the steps, as `steps_left` and 16 do
 abbrev pub AreBoundedBy : Table → (Position → ℕ) → ℕ → Type 0
 AreBoundedBy table left each = (m : Machine) (steps : List Step) (now : Machine) → run_from_by table (Some m) steps ≡ Some now
     → length steps + total left now.parties + each * how_often Event.CallBegins m.trace

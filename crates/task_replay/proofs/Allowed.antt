@@ -46,7 +46,7 @@ named_in_call : (now : Standing) (p : Position) (act : Act) → act_at now.word 
 named_in_call now (At r) act e = absurd (cc)
 named_in_call now p act e = (refl, cc)
 
--- .. so it may be made
+-- an act that is named may be made by a party in a call
 if_named : (now : Standing) (count i : ℕ) (p : Position) (named : Option Act) → slice_get now.parties i ≡ Some p → ∥ Played now count ∥₁ → named ≡ act_at now.word p
     → IfSome named (λ act. (next : Standing) × StepsTo now (record { party = i; act = act }) (Some next))
 if_named now count i p None at played e = tt
@@ -54,7 +54,7 @@ if_named now count i p (Some act) at played e =
     let named = named_in_call now p act (sym e) in
     allowed_there now (record { party = i; act = act }) p at (subst (λ a. IsSome (rule (scene_at now) a p)) named.1 (is_ruled now count i p at named.0 played))
 
--- .. where the position and the word are read from the same machine
+-- the same where the position and the word are read from the same machine
 pub is_allowed : (now seen : Standing) (count i : ℕ) (at : Option Position) (p : Position) (w : State) (named : Option Act) → ∥ Played now count ∥₁ → seen ≡ now
     → at ≡ slice_get seen.parties i → at ≡ Some p → w ≡ seen.word → named ≡ act_at w p
     → IfSome named (λ act. (next : Standing) × StepsTo now (record { party = i; act = act }) (Some next))

@@ -1,4 +1,4 @@
--- What a player rests on: a run with one step more, and bounds that follow from a run of so many steps.
+-- What a player rests on: a run with one step more, and bounds that follow from a run of that many steps.
 use Rattle.std.proofs.Common.{◌≡◌, ℕ, ◌+◌, ◌≤◌, ◌∙◌, List, [], ◌∷◌, ◌++◌, Option, Some, refl, sym, ap, subst, arith}
 use Rattle.std.proofs.lemmas.List.{length-append}
 use Rattle.std.proofs.Math.Bridge.{le_prop}
@@ -17,7 +17,7 @@ run_then o (x ∷ xs) s = run_one o x (xs ++ s ∷ []) ∙ (run_then (then_step 
 pub played_none : (now : Standing) (limit : ℕ) → now ≡ standing (opening limit) → Played now 0
 played_none now limit e = subst (λ (n : Standing). Played n 0) (sym e) ([], (refl, refl))
 
--- .. and a step that is allowed is one more
+-- a step that is allowed plays one more
 pub played_more : (now next : Standing) (s : Step) (count : ℕ) → StepsTo now s (Some next) → Played now count → Played next (count + 1)
 played_more now next s count does (steps, (is_count, ends)) =
     let known = shown (run now.limit steps) now ends in
@@ -26,7 +26,7 @@ played_more now next s count does (steps, (is_count, ends)) =
     let same_limit = limit_stays now.limit (steps ++ s ∷ []) next after_taking in
     (steps ++ s ∷ [], (omega (arith, more, is_count), subst (λ limit. stands (run limit (steps ++ s ∷ [])) ≡ Some next) (sym same_limit) after_taking))
 
--- .. and leaves the limit
+-- a step that is played leaves the limit
 limit_kept : (now next : Standing) (s : Step) (count : ℕ) → StepsTo now s (Some next) → Played now count → next.limit ≡ now.limit
 limit_kept now next s count does (steps, (is_count, ends)) =
     let known = shown (run now.limit steps) now ends in

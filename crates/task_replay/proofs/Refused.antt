@@ -46,7 +46,7 @@ scene_with limit slots word = record { limit = limit; word = word; slots = slots
 never_holds : (s : Scene) (limit : ℕ) (slots : Slots) (g : Guard) → holds (scene_with limit slots favourable) g ≡ false → holds s g ≡ false
 never_holds s limit slots g e = grind arith
 
--- .. so its line is never made, and one whose guard holds there is
+-- a line whose guard does not hold there is never made, and one whose guard holds there is
 pub never : (limit : ℕ) (slots : Slots) (word : State) (act : Act) (p : Position) (l : Line) → word ≡ favourable → bare (line act p) ≡ Some l → holds (scene_with limit slots word) l.guard ≡ false → IsNeverMade act p
 never limit slots word act p l e is_line h = λ s. none_left s (line act p) is_line (never_holds s limit slots l.guard (subst (λ w. holds (scene_with limit slots w) l.guard ≡ false) e h))
   where

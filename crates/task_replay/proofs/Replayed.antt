@@ -97,7 +97,7 @@ modest_row act p put row = grind rules
 modest : (act : Act) (p : Position) (s : Scene) → polls_told (rule s act p) ≤ 1
 modest = by_rows IsModest (λ act p s. grind rules) modest_row
 
--- .. and the limit stays
+-- a replay leaves the limit
 abbrev pub Bounded : ℕ → Option Machine → ℕ → Type 0
 Bounded limit None n = Unit {0}
 Bounded limit (Some m) n = (m.limit ≡ limit) × (count is_task_poll m.trace ≤ n)
@@ -169,7 +169,7 @@ leaves m s now seen p left stands_so is_seen at is_left =
     steps_at m s now p stands_so at ∙ (ap (λ (x : Scene). left_at now s.party (rule x s.act p)) (sym is_seen)
     ∙ (left_untold now s.party (rule seen s.act p) ∙ ap (left_at now s.party) is_left))
 
--- .. and writes, where the party that it adds was listed first
+-- what the code leaves and writes, where the party that it adds was listed first
 pub left_so : (now : Standing) (limit : ℕ) (word : State) (slots : SlotsHeld) (parties : List Position) (i : ℕ) (left : Effect)
     → record { limit = limit; word = word; slots = slots_of slots; parties = parties } ≡ record now { parties = now.parties ++ listed left.added } → i < length now.parties
     → left_at now i (Some (outcome_of left)) ≡ Some (record { limit = limit; word = left.word; slots = slots_of left.slots; parties = slice_set parties i left.next })

@@ -12,11 +12,11 @@ IsWord text (word ∷ (other ∷ more)) = ⊥
 abbrev pub AskForAll : List (String Global) → Type 0
 AskForAll = IsWord (codes "--all")
 
--- .. for how far each party is in its call beside it
+-- the one word asks for how far each party is in its call
 abbrev pub AskForProgress : List (String Global) → Type 0
 AskForProgress = IsWord (codes "--progress")
 
--- .. for what may be written
+-- the one word asks for what may be written
 abbrev pub AskForHelp : List (String Global) → Type 0
 AskForHelp = IsWord (codes "--help")
 

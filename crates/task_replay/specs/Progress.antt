@@ -11,7 +11,7 @@ abbrev pub act_at : State → Position → Option Act
 act_at w (At r) = None
 act_at w p = Some (next_act w p)
 
--- .. and where there is such a party
+-- the act of a party in a call, where there is such a party
 abbrev pub act_of : State → Option Position → Option Act
 act_of w None = None
 act_of w (Some p) = act_at w p

@@ -59,7 +59,7 @@ scene_at now = record { limit = now.limit; word = now.word; slots = now.slots }
 abbrev pub StepsTo : Standing → Step → Option Standing → Type 0
 StepsTo now s next = (m : Machine) → standing m ≡ now → stands (step m s) ≡ next
 
--- a list of so many steps ends in a machine that stands so
+-- a list of this many steps ends in a machine that stands so
 abbrev pub Played : Standing → ℕ → Type 0
 Played now count = (steps : List Step) × ((length steps ≡ count) × (stands (run now.limit steps) ≡ Some now))
 

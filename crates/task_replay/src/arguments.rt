@@ -80,7 +80,7 @@ pub fn asked(args: &[String]) -> Option<Request>
     }
 }
 
-// .. where they are one word.
+// What arguments that are one word ask for.
 fn asked_by(word: &str) -> Option<Request>
     ensures changed { ¬ (result ≡ Some (Trace Changed)) }
     ensures all { (result ≡ Some (Trace All)) ↔ (word.now ≡ codes "--all") }

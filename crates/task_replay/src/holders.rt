@@ -57,7 +57,7 @@ impl Holders {
         }
     }
 
-    /// Is told of a step, by which only its party has moved. There were so many parties before it.
+    /// Is told of a step, by which only its party has moved. There were `before` parties before it.
     pub fn note<A: Allocator>(&mut self, machine: &Machine<A>, party: u64, before: usize) {
         self.note_party(machine, party);
         for added in before as u64..machine.parties() as u64 {
@@ -129,7 +129,7 @@ fn has_future(position: Position) -> bool
     }
 }
 
-// .. the output.
+// Whether a party there may touch the output.
 fn has_output(position: Position) -> bool
     ensures { result ≡ owners.owns_output position }
 {
@@ -144,7 +144,7 @@ fn has_output(position: Position) -> bool
     }
 }
 
-// .. the clone of an awaiter.
+// Whether a party there has the clone of an awaiter.
 fn has_awaiter(position: Position) -> bool
     ensures { result ≡ owners.owns_awaiter position }
 {

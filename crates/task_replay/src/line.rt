@@ -162,21 +162,21 @@ fn moves_to(position: Position) -> Line
     moves_on(MovesTo(position))
 }
 
-// .. to a position that hangs on what it finds.
+// The party goes on to a position that hangs on what it finds.
 fn moves_on(next: Next) -> Line
     ensures { line_of result ≡ table.moves_on (next_of next) [] }
 {
     Line(Always, KeepsSlots, next, None)
 }
 
-// .. where the guard holds.
+// The party goes on where the guard holds.
 fn asks(guard: Guard, position: Position) -> Line
     ensures { line_of result ≡ record (table.moves_to position []) { guard = guard_of guard } }
 {
     Line(guard, KeepsSlots, MovesTo(position), None)
 }
 
-// .. and changes a slot.
+// The party goes on, and changes a slot.
 fn changes(edit: SlotEdit, position: Position) -> Line
     ensures { line_of result ≡ table.changes (edit_of edit) position [] }
 {

@@ -7,7 +7,7 @@ use task_core::acts::{Act, NAMES};
 // A name that is more edits away is not meant.
 const EDITS: usize = 3;
 
-// A character has so many bytes at most.
+// A character has at most this many bytes.
 const CHARACTER: usize = 4;
 
 /// The act whose name is the fewest edits away, the first one in the order of the table where there are several. `None` where each is more than three

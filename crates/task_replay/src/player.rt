@@ -32,7 +32,7 @@ impl From<AllocError> for PlayError {
     }
 }
 
-/// A machine and how many steps it has made. There is a list of so many steps from the opening state whose run, of which `task_laws::laws` speaks, ends in
+/// A machine and how many steps it has made. There is a list of that many steps from the opening state whose run, of which `task_laws::laws` speaks, ends in
 /// this machine.
 #[derive(Drop)]
 #[derive_where(Debug)]

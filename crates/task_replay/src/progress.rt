@@ -66,7 +66,7 @@ fn steps_on(way: NotifyingCall) -> u64
     }
 }
 
-// .. and once the awaiter in hand was woken or dropped.
+// The steps that are left once the awaiter in hand was woken or dropped.
 fn steps_off(way: NotifyingCall) -> u64
     ensures number { result ≡ bound.steps_off way }
     ensures few { result ≤ 3 }
@@ -90,7 +90,7 @@ pub fn next_act<A: Allocator>(player: &Player<A>, party: u64) -> Option<Act>
     }
 }
 
-/// .. where it stands there, and the word is this one.
+/// The act of a party that stands there, where the word is this one.
 pub fn act_there(word: Word, position: Position) -> Option<Act>
     ensures { result ≡ act_at word position }
 {

@@ -110,7 +110,7 @@ fn nearest_word(scene: &Scene, act: Act, position: Position) -> Option<Word>
     None
 }
 
-// .. with that count, or at the largest limit where it is above that, and with as few flags turned as may be.
+// A word with that count, or at the largest limit where it is above that, and with as few flags turned as may be.
 fn fitting_word(scene: &Scene, act: Act, position: Position, count: u64) -> Option<Word>
     requires { begun position < 2 ^ 64 - 1 }
     ensures { IfSome result (FitsAt (scene_of scene.now) act (Some position)) }

@@ -63,7 +63,7 @@ pub fn print_spawn<W: io::Write>(trace: &Trace, out: &mut W) -> io::Result<()> {
     writeln!(out, "| 0 | spawn | {columns} |")
 }
 
-/// Prints how the machine stands after that step. There were so many parties before it.
+/// Prints how the machine stands after that step. There were `before` parties before it.
 pub fn print_row<W: io::Write>(
     trace: &Trace,
     step: Step,

@@ -26,7 +26,7 @@ use task_laws::positions::Rest::*;
 /// What a party finds.
 #[derive(Clone, Copy)]
 pub(crate) struct Scene {
-    /// Up to so many references wakers are gained.
+    /// Up to this many references wakers are gained.
     pub limit: u64,
     /// The word.
     pub word: Word,

@@ -104,11 +104,11 @@ module _ (F T A : Type 0) (values : Values F T) (limit : ℕ) where
   abbrev pub Owes : (State → List Act) → (ℕ → ℕ) → Position → List Deed → List Member → List (ℕ × TaskPlace F T A) → Type 0
   Owes acts write p ds us held = (m : Machine) → Finds limit p ds us m → (n : ℕ) → n ≡ number_of m.word → n < 18446744073709551616 → Steps values m p (acts m.word) (write n) held
 
-  -- .. what it owes where the word that it finds ends its attempt
+  -- what the party owes where the word that it finds ends its attempt
   abbrev pub OwesEnd : {Row : Type 0} → Attempt Row → Position → List Deed → List Member → List (ℕ × TaskPlace F T A) → Type 0
   OwesEnd a p ds us held = (m : Machine) → Finds limit p ds us m → (n : ℕ) → n ≡ number_of m.word → n < 18446744073709551616 → a.ends limit m.word ≡ true → Steps values m p (a.acts_at_end m.word) n held
 
-  -- .. and where its change applies to that word
+  -- what the party owes where its change applies to the word that it finds
   abbrev pub OwesChange : {Row : Type 0} → Attempt Row → Position → List Deed → List Member → List (ℕ × TaskPlace F T A) → Type 0
   OwesChange a p ds us held = (m : Machine) → Finds limit p ds us m → a.applies limit m.word ≡ true → Steps values m p (acts_on a m.word) (number_of (word_after m.word (acts_on a m.word))) held
 

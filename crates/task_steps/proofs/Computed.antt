@@ -55,7 +55,7 @@ leads_total s (a ∷ more) p e = by (line a p) (λ s q h. leads_total s more q h
         ap (λ x. and_then x (λ o. leads (spot s.limit o.word o.slots) more o.next)) (passes (found s.limit a s.word) (holds s l.guard) o (left b rest e))
         ∙ ap (then_leaves o) (rec (spot s.limit o.word o.slots) o.next (right b rest e))
 
--- .. the word among it
+-- the word that they leave
 word_total : (m : Machine) (p : Position) (acts : List Act) → may (scene m) acts p ≡ true → number_of (word_after m.word acts) ≡ number_of (total (scene m) acts p).word
 word_total m p acts allowed = ap number_of (sym (leads_word (scene m) acts p (total (scene m) acts p) (leads_total (scene m) acts p allowed)))
 
@@ -70,12 +70,12 @@ by_table m {p} {acts} allowed writes idle placing = record {
   placing = placing;
 }
 
--- .. that leave the places as they are
+-- a step of such acts that leave the places as they are
 pub computed : {F T A : Type 0} {values : Values F T} (m : Machine) {p : Position} {acts : List Act} {new : ℕ} {l : List (ℕ × TaskPlace F T A)} → may (scene m) acts p ≡ true → new ≡ number_of (word_after m.word acts)
     → places_after (total (scene m) acts p) ≡ places_before m p → Steps values m p acts new l
 computed {values = values} m {p} {acts} allowed writes same = keeps_places values (total (scene m) acts p) (leads_total (scene m) acts p allowed) (writes ∙ word_total m p acts allowed) same
 
--- .. and the word too, so that they need no step
+-- acts that leave the word and the places as they are, so that they need no step
 pub record Keeps (m : Machine) (p : Position) (acts : List Act) : Type 0 where
   pub outcome : Outcome
   pub leads_to : leads (scene m) acts p ≡ Some outcome
@@ -90,10 +90,10 @@ noted {m} {p} {acts} allowed word places =
 pub allows : (a b : Bool) → a ≡ true → b ≡ true → ((a && b) && true) ≡ true
 allows a b e f = grind arith
 
--- .. that has no guard
+-- an act that has no guard
 pub row_fits : {a : Bool} → a ≡ true → ((a && true) && true) ≡ true
 row_fits {a} e = allows a true e refl
 
--- .. that has no row
+-- an act that has no row
 pub guarded : {b : Bool} → b ≡ true → (b && true) ≡ true
 guarded {b} e = allows true b refl e

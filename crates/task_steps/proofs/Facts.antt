@@ -45,7 +45,7 @@ counted count sums [] k p e = absurd (some-ne-none p (sym e))
 counted count sums (x ∷ xs) zero p e = let is : count (weigh x) ≡ count (weigh p) = ap (λ y. count (weigh y)) (some-injective x p e) in omega (arith, sums (weigh x) (census xs))
 counted count sums (x ∷ xs) (suc k) p e = let h = counted count sums xs k p e in omega (arith, sums (weigh x) (census xs))
 
--- .. and of the handshake
+-- the same for a count of the handshake
 pub counted_awaiting : (count : Awaiting → ℕ) → ((a b : Awaiting) → count (join a b) ≡ count a + count b) → (i : ℕ) (ps : List Position) (k : ℕ) (p : Position) → get_elem? ps k ≡ some p → count (await i p) ≤ count (awaiting i ps)
 counted_awaiting count sums i [] k p e = absurd (some-ne-none p (sym e))
 counted_awaiting count sums i (x ∷ xs) zero p e = let is : count (await i x) ≡ count (await i p) = ap (λ y. count (await i y)) (some-injective x p e) in omega (arith, sums (await i x) (awaiting i xs))

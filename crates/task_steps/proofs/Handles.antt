@@ -122,7 +122,7 @@ module _ (limit : ℕ) where
       by false true = inl (refl, refl)
       by false false = inl (refl, refl)
 
-  -- .. and so does a cancel of one
+  -- a cancel of an idle task makes a Runnable
   pub cancels_task : (n : ℕ) (ds : List Deed) (us : List Member) (F T A : Type 0) (values : Values F T) → Moves F T A values limit Brings to_cancel (At (Task n)) ds us
   cancels_task n ds us F T A values m f applied = by (found 0 CancelIdle m.word)
     where
@@ -182,7 +182,7 @@ module _ (limit : ℕ) where
       by true x = x
       by false x = x
 
-  -- .. and one that takes the Task off
+  -- a fetch that takes the Task off
   pub gives_task : (ds : List Deed) (us : List Member) (m : Machine) → Finds limit Detacher ds us m → Gives (has_references m.word) (shares_of m.word) (shares_of (word_after m.word (giving_task_up m.word)))
   gives_task ds us m f = by (nat_lt 0 m.word.references) refl
     where

@@ -58,7 +58,7 @@ module _ (F T A : Type 0) (values : Values F T) (limit : ℕ) where
     ),
   )
 
-  -- .. and have looked at the word for a wake, which has ended where the task is over
+  -- whoever reads the word for a wake may have a lent waker, and the wake has ended where the task is over
   pub wakes_anew : Enters Rule 2 0 (λ n w. observed values to_wake (step 2 0 0 0 none) (came (view limit (fresh (At Lent) ∷ []))) n (came w))
   wakes_anew s r homes fits = by (is_over limit (state_of n)) refl
     where

@@ -34,7 +34,7 @@ second_free w i = free_if w.closed (if w.scheduled || w.running then Answering i
     (free_if (w.scheduled || w.running) (Answering i IsPending) (Notifier (OfPoll i)) (refl, refl) (refl, refl))
     (free_if w.completed (SawOutput i) (Answering i IsPending) (refl, refl) (refl, refl))
 
--- .. and one that has the output
+-- a position that has the output
 claim_works : (b : Bool) (i : ℕ) → (has_work (notifies b (OfClaim i)) ≡ true) × (owns_awaiter (notifies b (OfClaim i)) ≡ false)
 claim_works true i = (refl, refl)
 claim_works false i = (refl, refl)
@@ -49,7 +49,7 @@ waits i false busy false e = refl
 pub has_waited : (w : State) (i : ℕ) → has_to_wait w ≡ true → second_look w i ≡ Answering i IsPending
 has_waited w i e = waits i w.closed (w.scheduled || w.running) w.completed e
 
--- .. and one that finds the output claims it
+-- a look that finds the output claims it
 pub sees_output : (w : State) (i : ℕ) → has_output w ≡ true → second_look w i ≡ SawOutput i
 sees_output w i e = claims_there i w.closed (w.scheduled || w.running) w.completed e
   where
@@ -95,7 +95,7 @@ module _ (limit : ℕ) where
   pub drops_clone : (i : ℕ) (ds : List Deed) (us : List Member) → OwesNote limit (DropAwaiter ∷ []) (UnusedClone i) ds us
   drops_clone i ds us m f = noted refl refl refl
 
-  -- .. where the slot's awaiter tells that there was one
+  -- an awaiter is stored where the slot tells that there was one
   pub drops_stored : {A : Type 0} (i : ℕ) (hand : Option ℕ) (a : A) → Waits hand (Some a) → (ds : List Deed) (us : List Member) → OwesNote limit (DropAwaiter ∷ []) (after_storing i hand) ds us
   drops_stored i None a h ds us m f = absurd h
   drops_stored i (Some old) a h ds us m f = noted refl refl refl

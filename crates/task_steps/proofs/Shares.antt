@@ -22,7 +22,7 @@ use Rattle.task_steps.proofs.Advance.{Finds, Steps}
 use Rattle.task_steps.proofs.Allowed.{Owes, OwesChange, makes_change, finds_trying}
 use Rattle.task_core.specs.Word.{HasRoom}
 
--- so many shares belong to a word
+-- how many shares belong to a word
 abbrev pub shares_of : State → ℕ
 shares_of w = at_least_one (handles w)
 
@@ -85,7 +85,7 @@ module _ (F T A : Type 0) (values : Values F T) (limit : ℕ) where
   keeps_shares id v l p ds us held acts write is owes same s c at = let run = c.running in let m : Machine = run.machine in let f = finds_trying F T A values limit s c.capped run id v l p ds None us at is in
       shares_after m p (acts m.word) (write (word_of s)) held (owes m f (word_of s) run.word_is (fits s c)) ∙ (same m f ∙ sym (shares_now s run))
 
-  -- .. and one that may give a share up
+  -- a step that may give a share up
   pub parts_shares : (id : ℕ) (v : View) (l : ℕ) (p : Position) (ds : List Deed) (us : List Member) (held : List (ℕ × TaskPlace F T A)) (acts : State → List Act) (write : ℕ → ℕ) (gives : State → Bool) → v ≡ view l (member p ds ∷ us) → Owes F T A values limit acts write p ds us held
       → ((m : Machine) → Finds limit p ds us m → Gives (gives m.word) (shares_of m.word) (shares_of (word_after m.word (acts m.word)))) → Less Rule shares_out id v write (λ n. gives (state_of n))
   parts_shares id v l p ds us held acts write gives is owes moves s c at = let run = c.running in let m : Machine = run.machine in let f = finds_trying F T A values limit s c.capped run id v l p ds None us at is in

@@ -67,7 +67,7 @@ module _ (F T A : Type 0) (values : Values F T) (limit : ℕ) where
   shares : (m : Machine) → nat_lt 0 m.word.references ≡ true → (m.word.completed && not m.word.closed) ≡ false → (nat_lt 0 m.word.references && not (m.word.completed && not m.word.closed)) ≡ true
   shares m left claimed = both (nat_lt 0 m.word.references) (not (m.word.completed && not m.word.closed)) left (over (m.word.completed && not m.word.closed) claimed)
 
-  -- .. and with none
+  -- the Task is given up, and no reference is left
   is_last : (m : Machine) → nat_lt 0 m.word.references ≡ false → m.word.closed ≡ true → (nat_eq m.word.references 0 && m.word.closed) ≡ true
   is_last m none closed = both (nat_eq m.word.references 0) m.word.closed (none_left m.word.references none) closed
 

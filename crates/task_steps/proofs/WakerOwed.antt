@@ -44,7 +44,7 @@ finds_it_over Waker m call e = refl
 finds_it_over Lent m call e = true_right (is_held m.word) (not (is_open m.word)) (over (is_open m.word) e)
 finds_it_over r m call e = never call
 
--- .. keeps the word and the places
+-- a wake that finds the task over keeps the word and the places
 pub wake_keeps : (limit : ℕ) (m : Machine) → is_over limit m.word ≡ true → Keeps m (At Lent) (WakeOver ∷ EndCall ∷ [])
 wake_keeps limit m is = noted (allows _ (may_wake (scene m) Lent) is (finds_it_over Lent m refl (not_true (is_open m.word) is))) refl refl
 

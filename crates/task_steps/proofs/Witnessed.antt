@@ -54,6 +54,6 @@ module _ (F T A : Type 0) (values : Values F T) (limit : ℕ) where
   pub may_witness : (id : ℕ) (me : Me (TaskPlace F T A) View) (u : Member) (us : List Member) → me.0.members ≡ u ∷ us → Allows Rule 2 id me 0 (λ n. n) (witnessed (step 2 0 0 0 none) me)
   may_witness id me u us is s r deep at fits = (me.0, keeps, tt, subst Rule (sym (unchanged s id me r.running at)) r, told s id me u us is r at)
 
-  -- .. and a note, which is no step
+  -- a note, which is no step, may tell it
   pub may_note_witness : (id : ℕ) (me : Me (TaskPlace F T A) View) (u : Member) (us : List Member) → me.0.members ≡ u ∷ us → Notes Rule id me (witnessed (step 2 0 0 0 none) me)
   may_note_witness id me u us is s r two at fits = (me.0, subst Rule (sym (unchanged s id me r.running at)) r, told s id me u us is r at)

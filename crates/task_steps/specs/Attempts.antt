@@ -48,7 +48,7 @@ module _ {F T A : Type 0} where
       × (a.ends m.0.limit (state_of r) ≡ false → m' ≡ (having_seen (tries_after (state_of r) (head_of m.0.members).tries) m.0, m.1))
       × Knows (head_of m.0.members).deeds (state_of r)
 
-  -- .. and its exchange: where it finds the word that it names, the acts of the change
+  -- what an exchange of an attempt tells: where it finds the word that it names, the acts of the change
   abbrev pub attempted : {Row : Type 0} → Values F T → Attempt Row → Step (TaskPlace F T A) → Me (TaskPlace F T A) View → ℕ → Me (TaskPlace F T A) View → Type 0
   attempted values a st m r m' = (r ≡ st.first → Makes values (acts_on a (state_of r)) (state_of r) m m')
       × (r ≢ st.first → m' ≡ (having_seen (tries_after (state_of r) (head_of m.0.members).tries) m.0, m.1))
@@ -72,7 +72,7 @@ module _ {F T A : Type 0} where
     pub made : Makes values (acts_on a word) word me me'
     pub knows : Knows (head_of me.0.members).deeds word
 
-  -- .. or this word has ended it
+  -- this word has ended an attempt
   pub record HasEnded {Row : Type 0} (values : Values F T) (limit : ℕ) (a : Attempt Row) (w : State) (me me' : Me (TaskPlace F T A) View) : Type 0 where
     pub at_end : a.ends limit w ≡ true
     pub made : Makes values (a.acts_at_end w) w me me'
@@ -98,11 +98,11 @@ module _ {F T A : Type 0} where
   abbrev pub TriesOn : {Row : Type 0} → ℕ → Attempt Row → State → State → Me (TaskPlace F T A) View → Me (TaskPlace F T A) View → Type 0
   TriesOn limit a v w me me' = HasFound w me me' × ((v ≢ w) ⊎ IsUndecided limit a w)
 
-  -- since then the party has seen at least so many words more, each another than the one before
+  -- since then the party has seen at least this many words more, each another than the one before
   abbrev pub HasLooked : ℕ → Me (TaskPlace F T A) View → Me (TaskPlace F T A) View → Type 0
   HasLooked n me me' = looks_of (head_of me.0.members).tries + n ≤ looks_of (head_of me'.0.members).tries
 
-  -- it has missed at least so often
+  -- it has missed at least this often
   abbrev pub HasMissed : ℕ → Me (TaskPlace F T A) View → Type 0
   HasMissed n me = n < looks_of (head_of me.0.members).tries
 

@@ -23,7 +23,7 @@ module _ {F T A : Type 0} where
   abbrev pub borrowing : Step (TaskPlace F T A) → Me (TaskPlace F T A) View → ℕ → Me (TaskPlace F T A) View → Type 0
   borrowing st m r m' = (m' ≡ (view m.0.limit (fresh (At Lent) ∷ []), [])) × HasRoom (state_of r)
 
-  -- .. which has looked at the word for a wake
+  -- who has a waker by reference gets a party of its own, which has looked at the word for a wake
   abbrev pub waking_anew : Values F T → Step (TaskPlace F T A) → Me (TaskPlace F T A) View → ℕ → Me (TaskPlace F T A) View → Type 0
   waking_anew values st m r m' = observed values to_wake st (view m.0.limit (fresh (At Lent) ∷ []), []) r m'
 

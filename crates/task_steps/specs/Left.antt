@@ -15,7 +15,7 @@ module _ {F T A : Type 0} where
     pub work : WorkAtHome s.homes IsEmpty
     pub awaiter : AwaiterAtHome s.homes (Waits None)
 
--- .. wherever the rule holds, and a party has emptied the places, as who closes the last share has
+-- the same wherever the rule holds, and a party has emptied the places, as who closes the last share has
 abbrev pub EmptyAtClose : {F T : Type 0} → Values F T → Type 0 → Type 0
 EmptyAtClose {F} {T} values A =
     (limit : ℕ) (s : Board (TaskPlace F T A) View) → RuleHolds {A = A} values limit s → (id : ℕ) (v : View) (u : Member) (us : List Member)

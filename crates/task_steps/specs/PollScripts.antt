@@ -71,6 +71,6 @@ to_end_register = record {
   acts_at_end = λ w. TakeAwaiter ∷ [];
 }
 
--- .. and the awaiter slot given back without it
+-- the awaiter slot is given back without a clone, which was taken back
 abbrev pub ending_notified : State → List Act
 ending_notified w = EndRegisterNotified ∷ []

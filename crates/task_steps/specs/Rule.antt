@@ -81,7 +81,7 @@ Reaches limit (e ∷ earlier) m =
     (n : Machine) × Reaches limit earlier n × (e.deed.found ≡ found_by e.deed.act n.word)
     × (step n (record { party = e.party; act = e.deed.act }) ≡ Some m) × (e.parties ≡ length n.parties)
 
--- .. and its steps, the oldest first
+-- the steps of an interleaving, the oldest first
 abbrev pub steps_of : List Entry → List Step
 steps_of [] = []
 steps_of (e ∷ earlier) = steps_of earlier ++ record { party = e.party; act = e.deed.act } ∷ []

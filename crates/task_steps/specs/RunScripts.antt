@@ -53,7 +53,7 @@ ending_pending Rescheduled = Reschedule ∷ []
 ending_pending Idle = EndIdle ∷ EndCall ∷ []
 ending_pending Orphaned = EndOrphaned ∷ []
 
--- .. with its share, where nobody woke the task and other handles are left
+-- such an end ends the run's share, where nobody woke the task and other handles are left
 abbrev pub ends_run : PendingEnd → Bool
 ends_run Idle = true
 ends_run _ = false

@@ -16,7 +16,7 @@ abbrev pub handing_over : View → View
 handing_over v =
     view v.limit (member (handed_over (head_of v.members).at) (deed HandOver None ∷ (head_of v.members).deeds) ∷ tail_of v.members)
 
--- .. which stands on a seat of its own
+-- the Runnable that was handed over, on a seat of its own
 abbrev pub runnable_of : View → View
 runnable_of v = view v.limit (fresh (At Runnable) ∷ [])
 

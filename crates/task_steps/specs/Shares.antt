@@ -53,7 +53,7 @@ module _ {F T A : Type 0} (values : Values F T) where
       → More (RuleHolds {A = A} values limit) shares_out id (having_seen t me.0) (λ n. either (n == number_of w) (number_of (word_after w (acts_on a w))) n)
       (λ n. (n == number_of w) && counts_on a (state_of n))
 
-  -- .. and gives one up where the change counts
+  -- whatever the party has seen, each exchange of its attempt gives a share up where the change counts
   abbrev pub MayGive : {Row : Type 0} → ℕ → ℕ → Me (TaskPlace F T A) View → Attempt Row → Type 0
   MayGive limit id me a =
       (t : Option Tries) (w : State) → a.applies limit w ≡ true → Names w t

@@ -10,7 +10,7 @@ use Rattle.task_steps.specs.Attempt.{Attempt, only}
 abbrev pub taking_up_closed : State → List Act
 taking_up_closed w = TakeUpClosed ∷ DropFuture ∷ []
 
--- .. or the run starts, and its poll
+-- an open task is taken up: the run starts, and its poll
 abbrev pub to_start_run : Attempt (Unit {0})
 to_start_run = record {
   applies = λ limit w. found 0 StartRun w;

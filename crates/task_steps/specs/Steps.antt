@@ -97,7 +97,7 @@ module _ {F T A : Type 0} where
   abbrev pub work_first : Slot F T → List (ℕ × TaskPlace F T A) → List (ℕ × TaskPlace F T A)
   work_first y l = (0, First y) ∷ l
 
-  -- .. place 1
+  -- place 1 in front, with this value, before others
   abbrev pub awaiter_first : Option A → List (ℕ × TaskPlace F T A) → List (ℕ × TaskPlace F T A)
   awaiter_first y l = (1, Second y) ∷ l
 
@@ -105,7 +105,7 @@ module _ {F T A : Type 0} where
   abbrev pub TakesFuture : Values F T → List (ℕ × TaskPlace F T A) → List (ℕ × TaskPlace F T A) → Type 0
   TakesFuture values l l' = (y : Slot F T) × IsFuture values y × (l' ≡ work_first y l)
 
-  -- .. with the output
+  -- place 0 is taken, with the output
   abbrev pub TakesOutput : Values F T → List (ℕ × TaskPlace F T A) → List (ℕ × TaskPlace F T A) → Type 0
   TakesOutput values l l' = (y : Slot F T) × IsOutput values y × (l' ≡ work_first y l)
 
@@ -142,7 +142,7 @@ abbrev pub leaves_such : (State → Bool) → Act → Option State → Bool
 leaves_such test a None = false
 leaves_such test a (Some w) = test (written a w)
 
--- .. that of one of these deeds
+-- the word that one of these deeds left is such a one
 abbrev pub saw : (State → Bool) → List Deed → Bool
 saw test [] = false
 saw test (d ∷ earlier) = leaves_such test d.act d.found || saw test earlier
@@ -155,6 +155,6 @@ saw_over ds = saw (λ w. not (is_open w)) ds
 abbrev pub saw_closed : List Deed → Bool
 saw_closed ds = saw (λ w. w.closed) ds
 
--- .. and without a Runnable or run that has the future
+-- the party has seen the task closed, and without a Runnable or run that has the future
 abbrev pub saw_ended : List Deed → Bool
 saw_ended ds = saw has_ended ds

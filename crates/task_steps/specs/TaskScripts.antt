@@ -25,7 +25,7 @@ abbrev pub closing : Cancelled → List Act
 closing (Idle due) = CancelIdle ∷ []
 closing (Busy due) = CancelBusy ∷ []
 
--- .. where it was idle, with a share for a Runnable
+-- a row closes the task where it was idle, with a share for a Runnable
 abbrev pub brings_share : Cancelled → Bool
 brings_share (Idle due) = true
 brings_share (Busy due) = false
@@ -53,7 +53,7 @@ detaching Last = DetachLast ∷ []
 detaching Orphaned = DetachOrphan ∷ []
 detaching Unclaimed = GiveUpOutput ∷ []
 
--- .. and its share too, where no output waits and a reference is left
+-- such a row ends the Task's share too, where no output waits and a reference is left
 abbrev pub ends_task : Detached → Bool
 ends_task Shared = true
 ends_task _ = false

@@ -37,7 +37,7 @@ waking_task Idle = WakeIdle ∷ EndCall ∷ []
 waking_task Running = WakeRunning ∷ EndCall ∷ []
 waking_task Scheduled = WakeScheduled ∷ EndCall ∷ []
 
--- .. where it was idle, with a share for a Runnable
+-- a wake finds the task idle, with a share for a Runnable
 abbrev pub brings_runnable : Woken → Bool
 brings_runnable Idle = true
 brings_runnable _ = false
@@ -75,7 +75,7 @@ dropping_as Last = DropLastWaker ∷ []
 abbrev pub dropping_waker : State → List Act
 dropping_waker w = dropping_as (dropped_by w)
 
--- .. with its share, where it is not the last handle
+-- a waker is dropped with its share, where it is not the last handle
 abbrev pub ends_waker : Dropped → Bool
 ends_waker Shared = true
 ends_waker _ = false

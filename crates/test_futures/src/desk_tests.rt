@@ -11,7 +11,7 @@ fn new_desk<R: Wait + Abort + Drop + Copy>(rt: R, alloc: Global, tasks: usize) -
     Desk::new(rt, alloc, tasks).expect(&rt, "refused")
 }
 
-// Keeps the token of this number for the task of a shared waker, which is made where there is none: whether it is kept.
+// Keeps the token of this number for the task of a shared waker, which is made where there is none. Answers whether it is kept.
 fn keep<R: Wait + Abort + Drop + Copy>(
     rt: R,
     desk: &Desk<R, Token>,

@@ -43,7 +43,7 @@ impl<W: Wake> Gate<W> {
         self.waiting.lock(rt).is_open = true;
     }
 
-    /// Opens the gate, and wakes by the waker of the first poll: whether there was one.
+    /// Opens the gate, wakes by the waker of the first poll, and answers whether there was one.
     pub fn open_and_wake<R: Wait>(&self, rt: &R) -> bool {
         self.open(rt);
         match self.waker(rt) {

@@ -17,7 +17,7 @@ const SLEEPERS: u64 = 64;
 // How often each of them sleeps.
 const TIMES: u64 = 4;
 
-// Sleeps on this thread: whether the time was over, and no sooner.
+// Sleeps on this thread, and answers whether the time was over, and no sooner.
 fn sleep_for<R: Wait + Clock + Abort + Drop + Copy>(
     rt: R,
     alloc: Global,
@@ -88,7 +88,7 @@ fn many_threads_sleep_by_one_driver(rt: HostRuntime) {
     assert!(rt; timers.len() == 0);
 }
 
-// Sleeps an hour and a moment: whether the moment was over. The driver may sleep until the hour is over, unless it is told of the moment.
+// Sleeps an hour and a moment, and answers whether the moment was over. The driver may sleep until the hour is over, unless it is told of the moment.
 fn sleep_beside_an_hour<R: Wait + Clock + Abort + Drop + Copy>(
     rt: R,
     alloc: Global,

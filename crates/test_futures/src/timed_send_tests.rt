@@ -12,7 +12,7 @@ use std::sync::atomic::AtomicU64;
 use std::time::{Clock, Duration};
 use task_core::{Future, Poll};
 
-// Waits for room until a timer is over, while there is none, and gives up then: whether the message is still here. The line of those who wait has no memory yet.
+// Waits for room until a timer is over, while there is none, gives up then, and answers whether the message is still here. The line of those who wait has no memory yet.
 fn gives_up<'a, R: Wait + Clock + Abort + Drop + Copy>(
     rt: &R,
     timers: &Timers<R, Mark<'a>>,
@@ -31,7 +31,7 @@ fn gives_up<'a, R: Wait + Clock + Abort + Drop + Copy>(
     waits && sleeps && sleep.poll(waker) != Poll::Pending && message == Some(2)
 }
 
-// Fills a channel with one message, gives another one up, and takes what comes out: whether it is what was sent.
+// Fills a channel with one message, gives another one up, takes what comes out, and answers whether it is what was sent.
 fn passes<'a, R: Wait + Clock + Abort + Drop + Copy>(
     rt: &R,
     timers: &Timers<R, Mark<'a>>,

@@ -84,7 +84,7 @@ pub fn all_turns<R: Wait + Abort + Drop + Copy>(pool: &GuestPool<R>) -> Vec<Gues
     pool.all_turns().expect(&pool.rt(), "refused")
 }
 
-/// Runs the next task, as `Turns::tick` does: whether there was one. The prover takes that call as it is told that the runtime lives for ever.
+/// Runs the next task, as `Turns::tick` does, and answers whether there was one. The prover takes that call as it is told that the runtime lives for ever.
 pub fn tick<R: Wait + Drop + Copy + 'static>(turns: &mut GuestTurns<'_, R>) -> bool {
     turns.tick()
 }
@@ -115,7 +115,7 @@ pub fn place_of_task<R: Wait + Abort + Drop + Copy>(pool: &GuestPool<R>) -> Key<
     place_for_task((pool, 0)).expect(&pool.rt(), "refused")
 }
 
-/// Keeps a Task at a place: whether it was kept.
+/// Keeps a Task at a place, and answers whether it was kept.
 pub fn keep<R: Wait + Drop + Copy>(task: GuestTask<'_, R>, key: &Key<R>) -> bool {
     keep_task(task, key).is_ok()
 }

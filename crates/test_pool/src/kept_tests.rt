@@ -65,7 +65,7 @@ fn place_of_waker<R: Wait + Abort + Drop + Copy>(pool: &KeepsPool<R>) -> Key<R> 
     place_for_waker((pool, 0)).expect(&pool.rt(), "refused")
 }
 
-// Runs the only task of a pool: whether it ran, and whether a poll of its Task answers that it is closed.
+// Runs the only task of a pool, and answers whether it ran, and whether a poll of its Task answers that it is closed.
 fn run_and_poll<R: Wait + Abort + Drop + Copy>(
     pool: &KeepsPool<R>,
     mut task: KeepsTask<'_, R>,

@@ -38,7 +38,7 @@ fn fill(alloc: Global, heap: &LocalHeap) -> Result<Filling<'_>, AllocError> {
     Ok(filling)
 }
 
-// Pushes 1 and 2 at the queue of the one worker: whether both were taken.
+// Pushes 1 and 2 at the queue of the one worker, and answers whether both were taken.
 fn push_two<R: Wait>(rt: &R, crew: &HeapCrew<'_>) -> bool {
     crew.push(rt, 0, 1).is_ok() && crew.push(rt, 0, 2).is_ok()
 }
@@ -128,7 +128,7 @@ fn lie_down_and_push<R: Wait>(
     }
 }
 
-// Pushes 1 to 10 at the queue for what comes from outside: whether all were taken.
+// Pushes 1 to 10 at the queue for what comes from outside, and answers whether all were taken.
 fn push_ten<R: Wait>(rt: &R, crew: &HeapCrew<'_>) -> bool {
     let mut taken = true;
     for item in 1..11u64 {

@@ -118,7 +118,7 @@ fn spawn_prompts<'x, 'heap, R: Wait + Abort + Drop + Copy>(
     tasks
 }
 
-// Runs the next task: whether there was one.
+// Runs the next task, and answers whether there was one.
 fn tick<'x, 'heap, R: Wait + Drop + Copy>(turns: &mut HeapTurns<'x, 'heap, R>) -> bool {
     turns.tick()
 }

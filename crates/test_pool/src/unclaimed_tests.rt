@@ -16,7 +16,7 @@ fn crew_of<R: Abort>(rt: &R, alloc: Global, workers: usize) -> Crew<u64> {
     Crew::new(alloc, alloc, workers, ROOM).expect(rt, "refused")
 }
 
-// Pushes 1 to 10 at the queue of worker 1: whether all were taken.
+// Pushes 1 to 10 at the queue of worker 1, and answers whether all were taken.
 fn push_ten<R: Wait>(rt: &R, crew: &Crew<u64>) -> bool {
     let mut taken = true;
     for item in 1..11u64 {

@@ -120,7 +120,7 @@ fn work<R: Wait + Drop + Copy + 'static>(pool: &JobPool<R>, worker: usize) -> bo
     pool.run(worker).is_ok()
 }
 
-// Runs a program on so many threads: whether all began, and how many tasks have ended and were refused memory.
+// Runs a program on a number of threads, and answers whether all began, and how many tasks have ended and were refused memory.
 fn run_on<R: Wait + Abort + Threads + Drop + Copy + Send + Sync + 'static>(
     rt: R,
     alloc: Global,

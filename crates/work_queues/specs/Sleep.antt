@@ -81,7 +81,7 @@ taken = 3
 abbrev pub this : ℕ → ℕ
 this word = suc word
 
--- the right to the word of this number: a flag that shows so much, or a worker
+-- the right to the word of this number: a flag that shows it, or a worker
 abbrev pub has_right : ℕ → ℕ → View
 has_right word value = view (this word) value 0 0 0 0 0 0 0
 

@@ -51,7 +51,7 @@ pub enum WorkerError {
 impl<T: Drop, A: Allocator + Copy> Crew<T, A> {
     ghost use Rattle.work_queues.specs.Settled.{OwesNothing};
 
-    /// Empty queues for so many workers, at least one and at most `MOST_WORKERS`, with room for `room` items in each before it asks `items` for more memory. All else is of `alloc`. An error says that there was no memory.
+    /// Empty queues for `workers` workers, at least one and at most `MOST_WORKERS`, with room for `room` items in each before it asks `items` for more memory. All else is of `alloc`. An error says that there was no memory.
     pub fn new(
         alloc: Global,
         items: A,

@@ -29,7 +29,7 @@ impl Limit for NoLimit {
     }
 }
 
-/// A sleep lasts so long at most, whenever it begins. A search before it is not counted.
+/// A sleep lasts at most this time, whenever it begins. A search before it is not counted.
 impl Limit for Duration {
     fn left(&self) -> Option<Duration>
         ensures { result ≡ Some self.now }

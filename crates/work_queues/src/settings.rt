@@ -7,7 +7,7 @@ const ROOM: usize = 64;
 /// How many items a worker takes from another queue at once, at most.
 const BATCH: usize = 256;
 
-/// A worker looks at the queue for what comes from outside first, once in so many looks.
+/// A worker looks at the queue for what comes from outside first, once in this many looks.
 const OUTSIDE_EVERY: u64 = 61;
 
 /// How often a worker that found nothing looks again before it lies down. How long that takes depends on the processor, as its `spin_loop` does: from 70 microseconds to 1 millisecond.
@@ -44,7 +44,7 @@ impl Settings {
         }
     }
 
-    /// The same numbers, where each queue has room for so many items before it asks for more memory.
+    /// The same numbers, where each queue has room for this many items before it asks for more memory.
     pub fn room(self, items: usize) -> Settings
         ensures { (result.room ≡ items) × (result.batch ≡ self.batch) × (result.outside_every ≡ self.outside_every) × (result.search_looks ≡ self.search_looks) }
     {
@@ -53,7 +53,7 @@ impl Settings {
         settings
     }
 
-    /// The same numbers, where a worker takes at most so many items at once from another queue: at least one.
+    /// The same numbers, where a worker takes at most this many items at once from another queue: at least one.
     pub fn batch(self, items: usize) -> Settings
         ensures { (result.room ≡ self.room) × (result.batch ≡ max items 1) × (result.outside_every ≡ self.outside_every) × (result.search_looks ≡ self.search_looks) }
     {
@@ -62,7 +62,7 @@ impl Settings {
         settings
     }
 
-    /// The same numbers, where a worker that has items of its own looks at the queue for what comes from outside once in so many looks, and at that of another worker once in 16 times as many. 0 is taken as 1.
+    /// The same numbers, where a worker that has items of its own looks at the queue for what comes from outside once in this many looks, and at that of another worker once in 16 times as many. 0 is taken as 1.
     pub fn outside_every(self, looks: u64) -> Settings
         ensures { (result.room ≡ self.room) × (result.batch ≡ self.batch) × (result.outside_every ≡ max looks 1) × (result.search_looks ≡ self.search_looks) }
     {
@@ -71,7 +71,7 @@ impl Settings {
         settings
     }
 
-    /// The same numbers, where a worker that found nothing looks again so many times before it sleeps. At 0 it sleeps at once.
+    /// The same numbers, where a worker that found nothing looks again this many times before it sleeps. At 0 it sleeps at once.
     pub fn search_looks(self, looks: usize) -> Settings
         ensures { (result.room ≡ self.room) × (result.batch ≡ self.batch) × (result.outside_every ≡ self.outside_every) × (result.search_looks ≡ looks) }
     {

@@ -40,7 +40,7 @@ impl Tally {
         counted.fetch_add(1, Ordering::SeqCst);
     }
 
-    // Counts a task that ends: whether it was the last.
+    // Counts a task that ends, and answers whether it was the last.
     fn end(&self) -> bool {
         self.running.fetch_sub(1, Ordering::SeqCst) == 1
     }

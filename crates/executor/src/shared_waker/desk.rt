@@ -12,7 +12,7 @@ use std::sync::{Arc, Wait};
 /// A shared waker of a task whose executor has a desk. Its wake takes the lock of the mailbox.
 pub type MailWaker<R> = SharedWaker<R, Awaiter<R>>;
 
-/// How many numbers of its mailbox a desk has for each task: the store spreads its places over so many parts, and a desk uses one.
+/// How many numbers of its mailbox a desk has for each task: the store spreads its places over this many parts, and a desk uses one.
 const NUMBERS_A_TASK: usize = 8;
 
 /// The wakers that an executor keeps for the shared wakers of its tasks, and the mailbox by which these reach it. `H` is such a waker without surroundings, as `TaskWaker<.., ()>`.
@@ -28,7 +28,7 @@ pub struct Desk<R: Wait + Drop + Copy, H: Drop> {
 }
 
 impl<R: Wait + Drop + Copy, H: Drop> Desk<R, H> {
-    /// An empty desk, for so many tasks at a time that have shared wakers: one more is refused its own. `rt` is what its calls wait by, `alloc` where its memory comes from. An error says that there was no memory.
+    /// An empty desk, for `tasks` tasks at a time that have shared wakers: one more is refused its own. `rt` is what its calls wait by, `alloc` where its memory comes from. An error says that there was no memory.
     pub fn new(rt: R, alloc: Global, tasks: usize) -> Result<Desk<R, H>, AllocError>
         ensures room { IfOk result (λ desk. desk.room ≡ min ((tasks + 1) * 8) (2 ^ 64 - 1)) }
         ensures bell { IfOk result (λ desk. IsKeyOf desk.kept desk.bell) }

@@ -105,7 +105,7 @@ pub struct Received<T, W> {
     pub due: Due<W>,
 }
 
-/// Messages in the order in which they were sent, with room for so many.
+/// Messages in the order in which they were sent, with room for a bounded number.
 #[derive(Drop)]
 pub struct Messages<T, W: Drop> {
     pub(crate) messages: VecDeque<T>,

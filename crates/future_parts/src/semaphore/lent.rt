@@ -1,4 +1,4 @@
-//! What a semaphore keeps under its lock: so many permits, each free, assigned to a waiter, or lent.
+//! What a semaphore keeps under its lock: its permits, each free, assigned to a waiter, or lent.
 ghost use Rattle.std.specs.Prelude.{◌≡◌, ◌≢◌, ◌<◌, ◌≤◌, ◌+◌, ◌-◌, ◌^◌, ◌↔◌, ◌⊎◌, [], None, Some, true, false, IfOk, IfSome, IsSome, IsTrue, length};
 ghost use Rattle.std.specs.Option.{option_to_list};
 

@@ -50,7 +50,7 @@ enum Said {
 use Call::*;
 use Said::*;
 
-// .. and that.
+// What one poll of the Task answers, beside what it leaves to do.
 type Answer<'c> = (Said, Settled<u8, u8, Awaiter<'c>>);
 
 // Stops the test where this is false.

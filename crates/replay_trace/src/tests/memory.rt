@@ -8,7 +8,7 @@ use std::process::Abort;
 use task_core::word::LIMIT;
 use task_replay::{ReplayError, Step, replay};
 
-// Whether a replay with so much memory comes to its end. Stops where it fails for another reason, ends at another word than that of nine references, or keeps
+// Whether a replay with this much memory comes to its end. Stops where it fails for another reason, ends at another word than that of nine references, or keeps
 // memory.
 fn has_memory<R: Abort>(rt: &R, alloc: Global, size: usize, steps: &[Step]) -> bool {
     let heap = LocalHeap::new(alloc, size).expect(rt, "refused");

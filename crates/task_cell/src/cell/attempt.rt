@@ -108,7 +108,7 @@ impl<R: Drop, F: Yields, Q: Drop, M: Drop, A: Drop, B: Allocator + Copy> Share<R
         TriedOnce::Again(Word::from_bits(found), maybe.share())
     }
 
-    // Tries a change from this word on, at most so often: what it found, and the share that it brought, if it did, or the word on which it is to be tried again. Then each try has found another word than it was tried on, unless the last word leaves the change undecided. So after a look, one try is enough where no other party writes. It cannot wait.
+    // Tries a change from this word on, by at most this many tries: what it found, and the share that it brought, if it did, or the word on which it is to be tried again. Then each try has found another word than it was tried on, unless the last word leaves the change undecided. So after a look, one try is enough where no other party writes. It cannot wait.
     #[inline(always)]
     pub(crate) fn attempt_some<P: Change>(
         &self,

@@ -60,7 +60,7 @@ impl<R: Drop, F: Yields, Q: Drop, M: Drop, A: Drop, B: Allocator + Copy> CellHol
         self.hold.value()
     }
 
-    /// Ends the hold, and the cell where nobody else keeps it: whether it has.
+    /// Ends the hold, and the cell where nobody else keeps it, and answers whether the cell has ended.
     pub fn release(self) -> bool {
         let alloc = self.cell().alloc;
         let CellHold { hold } = self;

@@ -60,7 +60,7 @@ impl<R: Drop, F: Yields, Q: Drop, M: Drop, A: Drop, B: Allocator + Copy> Share<R
         (is_last(found), maybe)
     }
 
-    /// Empties the place of the awaiter, as the last party, and gives it back by a load. Then its share ends, and the cell with it, unless a schedule call holds it: whether it has. The party goes on in its call: to the awaiter in hand, or to the end.
+    /// Empties the place of the awaiter, as the last party, and gives it back by a load. Then its share ends, and the cell with it, unless a schedule call holds it. It answers whether the cell has ended. The party goes on in its call: to the awaiter in hand, or to the end.
     pub fn empty(self, party: &mut Party<F, Kept<F>, A>) -> (Ledger<R, F, Q, M, A, B>, bool)
         requires cell { IsOf self party.old }
         requires party { (hand : Option ℕ) × (answer : Answer) × (y : Option A) × StandsWith (Emptier hand answer) (awaiter_first y []) party.old }

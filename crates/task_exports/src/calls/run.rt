@@ -158,7 +158,7 @@ fn end_pending<A: Wake, C: Caller<A>>(h: &mut Handle, caller: &mut C) -> Option<
     }
 }
 
-/// Runs the task of the Runnable at `h`: whether it was woken meanwhile, so that the Runnable went to the schedule function, and the record of the call.
+/// Runs the task of the Runnable at `h`, and answers whether it was woken meanwhile, so that the Runnable went to the schedule function, with the record of the call.
 pub fn run<A: Wake, C: Caller<A>>(h: &mut Handle, caller: &mut C) -> Option<(bool, Record)>
     requires handle { IsFull h.old }
     requires party { Stands as_runnable h.old.hand.party }

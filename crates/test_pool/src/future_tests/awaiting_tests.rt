@@ -82,7 +82,7 @@ fn a_chain_of_tasks_on_one_worker(rt: HostRuntime) {
     assert!(rt; (polls, places) == ((1998, 2), (0, 0)));
 }
 
-// Awaits a Task as one of two workers of a pool, and ends the pool: whether the other one began, and the answer.
+// Awaits a Task as one of two workers of a pool, ends the pool, and tells whether the other one began, and what the Task answered.
 fn await_beside<'x, R: Wait + Threads + Drop + Copy + Send + Sync + 'static>(
     pool: &'x LinkPool<R>,
     turns: &mut LinkTurns<'x, R>,

@@ -48,7 +48,7 @@ pub fn place_of_waker<R: Wait + Abort + Drop + Copy>(pool: &LinkPool<R>) -> Key<
     place_for_waker((pool, 0)).expect(&pool.rt(), "refused")
 }
 
-/// Runs the next task, as `Turns::tick` does: whether there was one.
+/// Runs the next task, as `Turns::tick` does, and answers whether there was one.
 pub fn tick<R: Wait + Drop + Copy + 'static>(turns: &mut LinkTurns<'_, R>) -> bool {
     turns.tick()
 }
@@ -71,7 +71,7 @@ pub fn block_on<'x, R: Wait + Drop + Copy + 'static>(
     turns.block_on(task)
 }
 
-/// Wakes for one number that was posted: whether there was one.
+/// Wakes for one number that was posted, and answers whether there was one.
 pub fn wakes_posted<R: Wait + Drop + Copy>(pool: &LinkPool<R>) -> bool {
     wake_posted((pool, 0))
 }

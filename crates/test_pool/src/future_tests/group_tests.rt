@@ -111,7 +111,7 @@ fn a_worker_looks_at_a_group_between_its_turns(rt: HostRuntime) {
     assert!(rt; came_out == (3, 6) && answer == Ok(2));
 }
 
-// Waits for a group, and then for a task, beside another worker: whether this began, what came out of the group, and what the task answers.
+// Waits for a group, and then for a task, beside another worker, and tells whether this began, what came out of the group, and what the task answers.
 fn wait_for_both<R: Wait + Abort + Threads + Drop + Copy + Send + Sync + 'static>(
     rt: R,
     alloc: Global,
@@ -168,7 +168,7 @@ fn next_output<'x, R: Wait + Drop + Copy + 'static>(
     }
 }
 
-// Adds the output of the next member of a group to a sum: whether the group was empty.
+// Adds the output of the next member of a group to a sum, and answers whether the group was empty.
 fn add_output<'x, R: Wait + Drop + Copy + 'static>(
     turns: &mut LinkTurns<'x, R>,
     group: &mut LinkGroup<'x, R>,
@@ -229,7 +229,7 @@ fn wait_for_groups<'x, R: Wait + Abort + Drop + Copy + 'static>(
     sum
 }
 
-// Waits as worker 0 of a pool for groups of tasks of another one, or of the same, while another thread is a worker of that: whether this began, and the
+// Waits as worker 0 of a pool for groups of tasks of another one, or of the same, while another thread is a worker of that, and tells whether this began, and the
 // sum of what came out.
 fn wait_beside<'x, R: Wait + Abort + Threads + Drop + Copy + Send + Sync + 'static>(
     pool: &'x LinkPool<R>,

@@ -44,7 +44,7 @@ impl Wake for Deaf {
 
 type DeafPool<R> = Pool<R, Guest, Deaf>;
 
-// Runs the next task: whether there was one.
+// Runs the next task, and answers whether there was one.
 fn run_next<R: Wait + Drop + Copy>(turns: &mut Turns<'_, R, Guest, Deaf>) -> bool {
     match turns.next() {
         Some(runnable) => {

@@ -75,7 +75,7 @@ fn spawn_poster<R: Wait + Abort + Drop + Copy>(
     seen
 }
 
-// Runs the next task, as `Turns::tick` does: whether there was one. A call of that needs a proof where the runtime is a parameter, and this needs none.
+// Runs the next task, as `Turns::tick` does, and answers whether there was one. A call of that needs a proof where the runtime is a parameter, and this needs none.
 fn tick<R: Wait + Drop + Copy>(turns: &mut Turns<'_, R, Poster<R>, BellAwaiter<R>>) -> bool {
     match turns.next() {
         Some(runnable) => {

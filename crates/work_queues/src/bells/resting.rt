@@ -125,7 +125,7 @@ impl Bells {
         self.sees_flag(&mut sleeper.place.seat)
     }
 
-    /// Sleeps until the worker is woken, or for so long. Only a worker that owes no look may call it. It may also return for no reason: what the kernel does, no clause says.
+    /// Sleeps until the worker is woken, or for the given time. Only a worker that owes no look may call it. It may also return for no reason: what the kernel does, no clause says.
     pub fn sleep<R: Wait>(&self, rt: &R, sleeper: &Sleeper, most: Option<Duration>) -> Parked
         requires { IsAsleep self.now sleeper.now × (sleeper.now.place.seat.me.0.owes ≡ 0) }
         ensures { (result.word ≡ worker_word self.now.workers sleeper.now.worker) × (result.value ≡ asleep) × (result.most ≡ most) }

@@ -37,7 +37,7 @@ fn queues<T: Drop, A: Allocator + Copy>(
 }
 
 impl<T: Drop, A: Allocator + Copy> Board<T, A> {
-    /// A board with an empty queue for each worker of these bells and one more, and room for so many items in each before it asks `items` for more memory. All else is of `alloc`. An error says that there was no memory, or that the bells have a board already.
+    /// A board with an empty queue for each worker of these bells and one more, and room for `room` items in each before it asks `items` for more memory. All else is of `alloc`. An error says that there was no memory, or that the bells have a board already.
     pub fn new(
         alloc: Global,
         items: A,

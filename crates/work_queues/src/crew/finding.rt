@@ -8,7 +8,7 @@ use crate::board::Visited;
 use std::alloc::{AllocError, Allocator};
 use std::sync::Wait;
 
-/// A worker looks at the queue of the next other worker first, once in so many times that it looks first at that for what comes from outside. The thread of that one may be in a long poll, or gone.
+/// A worker looks at the queue of the next other worker first, once in this many times that it looks first at that for what comes from outside. The thread of that one may be in a long poll, or gone.
 const OTHERS_EVERY: u64 = 16;
 
 // The number of the worker whose queue is looked at at this visit: of each in turn.

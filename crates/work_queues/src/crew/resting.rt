@@ -10,7 +10,7 @@ use crate::limit::Limit;
 use std::alloc::Allocator;
 use std::sync::Wait;
 
-/// It looks at all queues once in so many looks, and else only at counts that no worker writes for its own items. In a round `Board::is_left` may look 128 times at a queue of another worker, so beside queues that fill and empty a search has up to as many looks more for each of them as a search has.
+/// It looks at all queues once in this many looks, and else only at counts that no worker writes for its own items. In a round `Board::is_left` may look 128 times at a queue of another worker, so beside queues that fill and empty a search has up to as many looks more for each of them as a search has.
 const LOOKS_A_ROUND: usize = 128;
 
 impl<T, A: Allocator> Crew<T, A> {

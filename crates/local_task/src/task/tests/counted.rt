@@ -121,7 +121,7 @@ fn meets(rt: &impl Abort, before: &[Call], call: Call, first: Fate, second: Fate
 // The calls before, and what becomes of the awaiter 1.
 type Case = (&'static [Call], Fate);
 
-// .. in each case, where this becomes of the awaiter 2.
+// The calls before, and what becomes of the awaiter 1; in each of these cases this becomes of the awaiter 2.
 fn all_meet(rt: &impl Abort, cases: &[Case], call: Call, second: Fate) {
     for &(before, first) in cases {
         meets(rt, before, call, first, second);

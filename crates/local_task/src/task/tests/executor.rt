@@ -141,7 +141,7 @@ impl<'c> Executor<'c> {
         answer
     }
 
-    // .. of all three.
+    // All three Tasks are polled.
     fn poll_tasks(&mut self, rt: &impl Abort) -> [TaskPoll<Option<usize>>; 3] {
         [
             self.poll_task(rt, 0),

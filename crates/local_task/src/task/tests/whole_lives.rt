@@ -88,14 +88,14 @@ fn seen(task: &Task<'_>) -> Seen {
 // A call, what it answers, what it leaves to do, and what can be seen then.
 type Step = (Call, Said, Left, Seen);
 
-// Makes the call of a step: whether the rest is so.
+// Makes the call of a step, and answers whether the rest is so.
 fn does<'c>(rt: &impl Abort, task: &mut Task<'c>, pair: &'c Pair, step: Step) -> bool {
     let (call, said, wanted, looks) = step;
     let (answer, settled) = answer_of(rt, task, call, pair);
     answer == said && left_of(settled) == wanted && seen(task) == looks
 }
 
-// Stops where a new task does not take these steps, one after another, or has not so many wakers then.
+// Stops where a new task does not take these steps, one after another, or has another number of wakers then.
 fn lives<'c>(rt: &impl Abort, pair: &'c Pair, steps: &[Step], wakers: u64) {
     let mut task = LocalTask::new("metadata", FUTURE);
     holds(rt, seen(&task) == [true, false, false, false, true]);

@@ -312,7 +312,7 @@ fn a_line_that_cannot_be_read_is_named(rt: HostRuntime) {
     }
 }
 
-// The status, where `out` takes so many bytes and then fails, and may fail to flush.
+// The status, where `out` takes this many bytes and then fails, and may fail to flush.
 fn status_of(alloc: Global, input: &str, left: usize, flushes: bool) -> (u8, usize) {
     let mut limited = Limited { left, flushes };
     let mut err = Vec::new(alloc);

@@ -32,17 +32,5 @@ pub returns-in-Orphaned-clause-path : goal.returns-in-Orphaned-clause-path
 returns-in-Orphaned-clause-path c = let x = (subst (λ f. DetachesRow (values_in c.share-share.result) c.args.hand.party c.give_task_up_some.new.party f) c.in-Orphaned.is c.in-Ok.ensures.path) in let o = c.hand_on-hand.ensures.runnable in let t = c.share.ensures in let l = c.in-Ok.ensures.share in let s = c.share-share.ensures in
     is_orphaned x.0 c.hand_on-hand.result.1.party x.1 (did_then _ _ _ (row DetachOrphan x.0 ∷ []) (act HandOver ∷ act EndCall ∷ []) as_deliverer as_ended [] [] x.2 c.hand_on-hand.ensures.ended) (o.0, λ i. ((o.1.0 ∙ (t.0 ∙ (l.cell.0 ∙ s.0))) i, (o.1.1 ∙ (t.2 ∙ (l.cell.1 ∙ s.2))) i)) o.2
 
-pub returns-in-Shared-clause-bits : goal.returns-in-Shared-clause-bits
-returns-in-Shared-clause-bits c = c.in-Ok.ensures.share.cell.0 ∙ c.share-share.ensures.0
-
-pub returns-in-Unclaimed-clause-bits : goal.returns-in-Unclaimed-clause-bits
-returns-in-Unclaimed-clause-bits c = c.in-Ok.ensures.share.cell.0 ∙ c.share-share.ensures.0
-
-pub returns-in-Last-clause-bits : goal.returns-in-Last-clause-bits
-returns-in-Last-clause-bits c = c.in-Ok.ensures.share.cell.0 ∙ c.share-share.ensures.0
-
-pub returns-in-Orphaned-clause-bits : goal.returns-in-Orphaned-clause-bits
-returns-in-Orphaned-clause-bits c = c.hand_on-hand.ensures.runnable.1.0 ∙ (c.share.ensures.0 ∙ (c.in-Ok.ensures.share.cell.0 ∙ c.share-share.ensures.0))
-
 pub returns-in-Orphaned-clause-record : goal.returns-in-Orphaned-clause-record
 returns-in-Orphaned-clause-record c = (c.hand_on-hand.ensures.record.0, c.hand_on-hand.ensures.record.1 ∙ (c.share.ensures.0 ∙ (c.in-Ok.ensures.share.cell.0 ∙ c.share-share.ensures.0)))

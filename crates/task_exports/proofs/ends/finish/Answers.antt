@@ -63,15 +63,3 @@ pub returns-clause-path : goal.returns-clause-path
 returns-clause-path c = let s = c.requires.party in let e = c.end_notify-awaiter.ensures s.0 OfRun s.1 [] s.2 s.3 in
     let o = left_others _ _ _ _ _ (c.give_up-last.ensures.path s.0 (Ran false) (stands _ _ _ _ _ e.did)) c.if-last-2.false in
     finished_over s.0 _ _ _ _ e.word (c.give_up-last.ensures.share.is_there ∙ c.if-last-2.false) e.did o (sym e.is_there ∙ ap is_some c.in-None.is) c.end-in-None.ensures
-
-pub returns-then-last-clause-bits : goal.returns-then-last-clause-bits
-returns-then-last-clause-bits c = c.give_up-last.ensures.share.cell.0 ∙ c.share-share.ensures.0
-
-pub returns-in-Some-clause-bits : goal.returns-in-Some-clause-bits
-returns-in-Some-clause-bits c = c.give_up-last.ensures.share.cell.0 ∙ c.share-share.ensures.0
-
-pub returns-then-last-2-clause-bits : goal.returns-then-last-2-clause-bits
-returns-then-last-2-clause-bits c = c.give_up-last.ensures.share.cell.0 ∙ c.share-share.ensures.0
-
-pub returns-clause-bits : goal.returns-clause-bits
-returns-clause-bits c = c.give_up-last.ensures.share.cell.0 ∙ c.share-share.ensures.0

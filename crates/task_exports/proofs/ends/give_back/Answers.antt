@@ -22,9 +22,3 @@ end-requires-clause-party c = let s = c.requires.party in let l = left_others _ 
 pub returns-clause-path : goal.returns-clause-path
 returns-clause-path c = let s = c.requires.party in let l = left_others _ _ _ _ _ (c.give_up-last.ensures.path None s.0 s.1) c.if-last.false in
     others l.word l.fits (c.give_up-last.ensures.share.is_there ∙ c.if-last.false) (and_ends (row GiveUpReference l.word ∷ []) s.0 _ _ _ l.did c.end.ensures)
-
-pub returns-then-last-clause-bits : goal.returns-then-last-clause-bits
-returns-then-last-clause-bits c = c.give_up-last.ensures.share.cell.0 ∙ c.share-share.ensures.0
-
-pub returns-clause-bits : goal.returns-clause-bits
-returns-clause-bits c = c.give_up-last.ensures.share.cell.0 ∙ c.share-share.ensures.0

@@ -60,15 +60,3 @@ returns-else-due-clause-path c = let s = c.requires.party in let a = c.answer_re
 
 pub complete_some-completed-requires-clause-yielded : goal.complete_some-completed-requires-clause-yielded
 complete_some-completed-requires-clause-yielded c = let spawned = c.share-share.result.block.key.future.value in record { before = spawned; after = spawned; continued = unpolled; answered = tt }
-
-pub returns-then-keeps_output-clause-bits : goal.returns-then-keeps_output-clause-bits
-returns-then-keeps_output-clause-bits c = c.go_on.ensures.bits ∙ (c.into_maybe-share.ensures.cell.0 ∙ c.share-share.ensures.0)
-
-pub returns-in-None-clause-bits : goal.returns-in-None-clause-bits
-returns-in-None-clause-bits c = c.into_maybe-share.ensures.cell.0 ∙ c.share-share.ensures.0
-
-pub returns-then-due-clause-bits : goal.returns-then-due-clause-bits
-returns-then-due-clause-bits c = c.into_maybe-share.ensures.cell.0 ∙ c.share-share.ensures.0
-
-pub returns-else-due-clause-bits : goal.returns-else-due-clause-bits
-returns-else-due-clause-bits c = c.into_maybe-share.ensures.cell.0 ∙ c.share-share.ensures.0

@@ -18,12 +18,3 @@ returns-in-Some-false-clause-path c = let t = subst (λ b. TakesUp (values_in c.
 
 pub returns-in-None-clause-path : goal.returns-in-None-clause-path
 returns-in-None-clause-path c = start_missed (subst (λ o. IfNone o (HasMissed (2 ^ 64 - 1) c.take_up_some-started.new.party.seat.me)) c.in-None.is c.take_up_some-started.ensures.missed)
-
-pub returns-in-Some-true-clause-bits : goal.returns-in-Some-true-clause-bits
-returns-in-Some-true-clause-bits c = c.into_maybe-share.ensures.cell.0 ∙ c.share-share.ensures.0
-
-pub returns-in-Some-false-clause-bits : goal.returns-in-Some-false-clause-bits
-returns-in-Some-false-clause-bits c = c.into_maybe-share.ensures.cell.0 ∙ c.share-share.ensures.0
-
-pub returns-in-None-clause-bits : goal.returns-in-None-clause-bits
-returns-in-None-clause-bits c = c.into_maybe-share.ensures.cell.0 ∙ c.share-share.ensures.0

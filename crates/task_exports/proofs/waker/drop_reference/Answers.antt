@@ -40,14 +40,5 @@ returns-in-Orphaned-clause-path c = let x = subst (CellDrops c.args.hand.party c
     orphan_waker x.0 y.0 c.hand_on-hand.result.1.party x.1 x.2 c.hand_on-hand.ensures.runnable.0 c.hand_on-hand.ensures.runnable.2
     (did_then _ _ _ (row OrphanTask x.0 ∷ row CloseOrphan y.0 ∷ []) (act HandOver ∷ act EndCall ∷ []) as_deliverer as_ended [] [] (orphan_closed _ _ _ x y) c.hand_on-hand.ensures.ended)
 
-pub returns-in-Shared-clause-bits : goal.returns-in-Shared-clause-bits
-returns-in-Shared-clause-bits c = c.drop_reference-found.ensures.share.cell.0 ∙ c.share-share.ensures.0
-
-pub returns-in-Last-clause-bits : goal.returns-in-Last-clause-bits
-returns-in-Last-clause-bits c = c.drop_reference-found.ensures.share.cell.0 ∙ c.share-share.ensures.0
-
-pub returns-in-Orphaned-clause-bits : goal.returns-in-Orphaned-clause-bits
-returns-in-Orphaned-clause-bits c = c.hand_on-hand.ensures.runnable.1.0 ∙ (c.share-owned.ensures.0 ∙ (c.drop_reference-found.ensures.share.cell.0 ∙ c.share-share.ensures.0))
-
 pub returns-in-Orphaned-clause-record : goal.returns-in-Orphaned-clause-record
 returns-in-Orphaned-clause-record c = (c.hand_on-hand.ensures.record.0, c.hand_on-hand.ensures.record.1 ∙ (c.share-owned.ensures.0 ∙ (c.drop_reference-found.ensures.share.cell.0 ∙ c.share-share.ensures.0)))
