@@ -2,8 +2,8 @@
 use Rattle.std.proofs.Common.{◌≡◌, ℕ, Bool, true, false, List, [], ◌∷◌, ◌++◌, refl, sym, ap, ◌∙◌, subst}
 use Rattle.task_core.specs.Word.{State}
 use Rattle.task_core.specs.declared.acts.Act.TheVariants.{BeginNotify, CancelBusy, CancelIdle, CancelOver, EndCall, EndNotify, HandOver, WakeAwaiter}
-use Rattle.task_cell.proofs.Moved.{did_then, stands}
-use Rattle.task_cell.specs.Calls.{Did, DidWith, Fits, Stands}
+use Rattle.task_cell.proofs.Moved.{did_then}
+use Rattle.task_cell.specs.Calls.{Did, Fits, Stands}
 use Rattle.task_cell.specs.TaskPaths.{CancelPath, Notice, found_none, is_busy, is_idle, is_over, missed, not_due, woke}
 use Rattle.task_cell.specs.declared.cell.Party.{Party}
 use Rattle.task_exports.proofs.Numbers.{differs}

@@ -1,7 +1,6 @@
 -- What the parts of a waker's drop come to, put together from its exports.
-use Rattle.std.proofs.Common.{◌≡◌, ℕ, Bool, true, false, List, [], ◌∷◌, ◌++◌, Option, Some, None, refl, sym, subst, is_some}
-use Rattle.task_core.specs.Word.{State}
-use Rattle.task_core.specs.declared.acts.Act.TheVariants.{CloseOrphan, DropLastWaker, DropWaker, EmptySlots, EndCall, HandOver, OrphanTask}
+use Rattle.std.proofs.Common.{◌≡◌, ℕ, false, List, [], ◌∷◌, ◌++◌, Option, Some, None, refl, is_some}
+use Rattle.task_core.specs.declared.acts.Act.TheVariants.{CloseOrphan, EmptySlots, EndCall, HandOver, OrphanTask}
 use Rattle.task_cell.proofs.Moved.{did_then, stands}
 use Rattle.task_cell.specs.Calls.{Did, DidWith, Stands}
 use Rattle.task_cell.specs.WakerPaths.{WakerDropPath, leaves_none as waker_none, leaves_orphan, leaves_others as waker_others}

@@ -1,10 +1,9 @@
 -- What the parts of a detach and of a spawn come to, put together from their exports.
-use Rattle.std.proofs.Common.{◌≡◌, ℕ, true, false, List, [], ◌∷◌, ◌++◌, Option, Some, None, refl, ap, is_some}
-use Rattle.task_core.specs.Word.{State}
+use Rattle.std.proofs.Common.{◌≡◌, ℕ, true, false, List, [], ◌∷◌, Option, Some, None, refl, ap, is_some}
 use Rattle.task_core.specs.declared.acts.Act.{Act}
 use Rattle.task_core.specs.declared.acts.Act.TheVariants.{Detach, DetachLast, DropOutput, EmptySlots, EndCall, GiveUpOutput}
 use Rattle.task_cell.proofs.Moved.{did_then, stands}
-use Rattle.task_cell.specs.Calls.{Did, DidWith, Fits, Stands, StandsWith, deeds}
+use Rattle.task_cell.specs.Calls.{Did, Stands, StandsWith, deeds}
 use Rattle.task_cell.specs.TaskPaths.{DetachPath, UnclaimedPath}
 use Rattle.task_cell.specs.TaskPaths as paths
 use Rattle.task_exports.proofs.EndsCall.{IsEmptier}

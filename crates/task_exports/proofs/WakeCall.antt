@@ -1,5 +1,5 @@
 -- What a wake and a gain come to for their caller.
-use Rattle.std.proofs.Common.{◌≡◌, ℕ, true, false, not, Option, Some, refl, sym, subst, ◌∙◌}
+use Rattle.std.proofs.Common.{◌≡◌, ℕ, not, Option, Some, refl, sym, subst, ◌∙◌}
 use Rattle.std.specs.Prelude.{IfSome, is_some, nat_eq}
 use Rattle.task_cell.specs.Calls.{Stands}
 use Rattle.task_exports.proofs.Numbers.{differs}

@@ -1,6 +1,5 @@
 use Rattle.std.specs.Prelude.{IfNone, ◌-◌, ◌^◌}
 use Rattle.task_steps.specs.Attempts.{HasMissed}
-use Rattle.task_cell.proofs.Vocabulary.{None}
 use Rattle.std.proofs.Common.{refl, sym, ap, ◌∙◌, subst, Some}
 use Rattle.std.specs.Prelude.{IfSome}
 use Rattle.task_exports.proofs.Cancelling.{busy_cell, busy_stands, closed_so, deliverer_stands, handed_alone, handed_due, nobody_scheduled, row_cell, row_limit, row_over}

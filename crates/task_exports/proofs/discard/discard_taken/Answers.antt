@@ -1,5 +1,5 @@
-use Rattle.task_cell.proofs.Vocabulary.{[], ◌∷◌, ◌∙◌, sym, ap, is_some, Some, None, OfDrop, Releaser}
-use Rattle.task_exports.proofs.Live.{of_cell, lives_on}
+use Rattle.task_cell.proofs.Vocabulary.{[], ◌∙◌, sym, ap, is_some, OfDrop}
+use Rattle.task_exports.proofs.Live.{lives_on}
 use Rattle.task_exports.proofs.Ending.{taken_wakes, taken_gives, taken_none}
 use Rattle.task_exports.proofs.discard.discard_taken.Goals as goal
 

@@ -1,7 +1,7 @@
-use Rattle.task_cell.proofs.Vocabulary.{[], ◌∷◌, ◌∙◌, sym, refl, OfDrop, Nothing, WakeAwaiter, act}
+use Rattle.task_cell.proofs.Vocabulary.{[], ◌∷◌, OfDrop, Nothing, WakeAwaiter, act}
 use Rattle.task_cell.proofs.Moved.{stands}
 use Rattle.task_exports.proofs.Given.{woken_at}
-use Rattle.task_exports.proofs.Live.{of_cell, lives_on}
+use Rattle.task_exports.proofs.Live.{lives_on}
 use Rattle.task_exports.proofs.Goes.{gives_on}
 use Rattle.task_exports.proofs.discard.discard_woken.Goals as goal
 

@@ -1,4 +1,4 @@
-use Rattle.task_cell.proofs.Vocabulary.{[], ◌∙◌, subst, sym, true, false, Stands, notifies}
+use Rattle.task_cell.proofs.Vocabulary.{[], ◌∙◌, subst, sym, false, Stands, notifies}
 use Rattle.task_exports.specs.Answers.{BeginsDue}
 use Rattle.task_exports.specs.declared.hand.Hand.{Hand}
 use Rattle.task_exports.proofs.Live.{lives_with}

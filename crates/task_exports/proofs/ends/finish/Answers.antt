@@ -1,4 +1,4 @@
-use Rattle.task_cell.proofs.Vocabulary.{[], ◌∷◌, ◌∙◌, sym, ap, is_some, false, OfRun, Ran, Ended, Some, None}
+use Rattle.task_cell.proofs.Vocabulary.{[], ◌∙◌, sym, ap, is_some, false, OfRun, Ran, Ended}
 use Rattle.task_cell.proofs.Moved.{stands, did_then}
 use Rattle.task_exports.proofs.Given.{was_last, left_others, woken_at}
 use Rattle.task_exports.proofs.Ending.{finished_last, finished_last_wakes, finished_over, finished_wakes, others_call, others_wake}

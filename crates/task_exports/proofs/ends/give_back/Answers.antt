@@ -1,4 +1,4 @@
-use Rattle.task_cell.proofs.Vocabulary.{[], ◌∷◌, ◌∙◌, None, Ended, refl, sym, GiveUpReference, row}
+use Rattle.task_cell.proofs.Vocabulary.{[], ◌∷◌, ◌∙◌, None, Ended, sym, GiveUpReference, row}
 use Rattle.task_cell.proofs.Moved.{stands}
 use Rattle.task_exports.specs.Answers.{others, none_left}
 use Rattle.task_exports.proofs.Given.{was_last, left_others, and_ends}

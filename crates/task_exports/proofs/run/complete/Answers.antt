@@ -1,6 +1,6 @@
 use Rattle.std.specs.Prelude.{IfNone, ◌-◌, ◌^◌}
 use Rattle.task_steps.specs.Attempts.{HasMissed}
-use Rattle.task_cell.proofs.Vocabulary.{◌∙◌, sym, ap, subst, refl, ◌∷◌, [], false, Bool, if◌then◌else◌, IfSome, OfRun, Ran, ReadyFutureDropped, AnswerReady, DropFuture, Completes, Stands, notifies, act, work_first, Some, None}
+use Rattle.task_cell.proofs.Vocabulary.{◌∙◌, sym, ap, subst, refl, ◌∷◌, [], false, Bool, if◌then◌else◌, IfSome, OfRun, Ran, ReadyFutureDropped, AnswerReady, DropFuture, Completes, Stands, notifies, act, work_first}
 use Rattle.task_cell.proofs.Moved.{stands, did_then}
 use Rattle.task_exports.specs.Answers.{GoesOn, complete_missed}
 use Rattle.task_exports.specs.declared.hand.Hand.{Hand}

@@ -1,4 +1,4 @@
-use Rattle.task_cell.proofs.Vocabulary.{sym, subst, refl, false, ◌∷◌, [], OfRun, Ran, EndClosed, notifies, Stands, row, act}
+use Rattle.task_cell.proofs.Vocabulary.{sym, subst, refl, false, ◌∷◌, [], OfRun, Ran, EndClosed, notifies, Stands, row}
 use Rattle.task_cell.proofs.Moved.{stands}
 use Rattle.task_exports.specs.Answers.{GoesOn}
 use Rattle.task_exports.specs.declared.hand.Hand.{Hand}

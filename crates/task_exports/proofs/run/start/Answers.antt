@@ -1,10 +1,9 @@
 use Rattle.std.specs.Prelude.{IfNone, ◌-◌, ◌^◌}
 use Rattle.task_steps.specs.Attempts.{HasMissed}
-use Rattle.task_cell.proofs.Vocabulary.{◌∙◌, subst, true, false, Some, IfSome, TakesUp, None}
+use Rattle.task_cell.proofs.Vocabulary.{subst, IfSome, TakesUp}
 use Rattle.task_exports.specs.Answers.{start_missed, polls, finds_closed}
 use Rattle.task_exports.proofs.Runs.{taken_up}
 use Rattle.task_exports.proofs.Unknown.{takes_up_unknown}
-use Rattle.task_exports.proofs.Live.{lives_on}
 use Rattle.task_cell.specs.Belongs.{values_in}
 use Rattle.task_exports.proofs.run.start.Goals as goal
 

@@ -1,4 +1,4 @@
-use Rattle.task_cell.proofs.Vocabulary.{[], ◌∷◌, ◌∙◌, sym, subst, Did, EndCall, Ended, HandOver, act, as_ended}
+use Rattle.task_cell.proofs.Vocabulary.{[], ◌∷◌, ◌∙◌, sym, Ended, HandOver, act}
 use Rattle.task_steps.specs.Standing.{as_runnable}
 use Rattle.task_cell.proofs.Moved.{stands}
 use Rattle.task_cell.proofs.WakerMoves.{fresh_stands}

@@ -4,7 +4,7 @@ use Rattle.task_cell.specs.WakerPaths.{DropsWaker as CellDrops}
 use Rattle.task_steps.specs.Standing.{as_deliverer}
 use Rattle.task_steps.specs.WakerScripts.{ends_waker}
 use Rattle.task_cell.proofs.Moved.{did_then, stands, limit_is}
-use Rattle.task_cell.proofs.Sharing.{same_cell, same_block, same_limit}
+use Rattle.task_cell.proofs.Sharing.{same_block, same_limit}
 use Rattle.task_cell.proofs.WakerCalls.{orphan_closed}
 use Rattle.task_exports.specs.Answers.{shared, last_waker, orphan_waker}
 use Rattle.task_exports.proofs.Live.{of_cell, of_limit, lives_left}
