@@ -2,8 +2,8 @@
 use Rattle.std.proofs.Common.{◌≡◌, ℕ, Bool, true, false, List, [], ◌∷◌, ◌++◌, refl, sym, ap, ◌∙◌, subst}
 use Rattle.task_core.specs.Word.{State}
 use Rattle.task_core.specs.declared.acts.Act.TheVariants.{BeginNotify, CancelBusy, CancelIdle, CancelOver, EndCall, EndNotify, HandOver, WakeAwaiter}
-use Rattle.task_cell.proofs.Moved.{did_then, stands}
-use Rattle.task_cell.specs.Calls.{Did, DidWith, Fits, Stands}
+use Rattle.task_cell.proofs.Moved.{did_then}
+use Rattle.task_cell.specs.Calls.{Did, Fits, Stands}
 use Rattle.task_cell.specs.TaskPaths.{CancelPath, Notice, found_none, is_busy, is_idle, is_over, missed, not_due, woke}
 use Rattle.task_cell.specs.declared.cell.Party.{Party}
 use Rattle.task_exports.proofs.Numbers.{differs}
@@ -82,7 +82,7 @@ module _ {F T A : Type 0} where
     module _ (Scheduled : Type 0) where
       -- the whole, by its first answer
       pub over_at_once : (p q : Party F T A) (a : ℕ) → Cancels n p q a → a ≡ 12 → Cancelled Scheduled Woken n p q
-      over_at_once p q _ cancel_missed e = differs 0 12 refl refl e
+      over_at_once p q _ (cancel_missed _) e = differs 0 12 refl refl e
       over_at_once p q _ (was_over w f g) e = (row CancelOver w ∷ act EndCall ∷ [], is_over w f, g)
       over_at_once p q _ (closes w notice f b g) e = (row CancelBusy w ∷ (notice ++ act EndCall ∷ []), is_busy w notice f (passed Woken w.awaiter notice b), g)
       over_at_once p q _ (closes_and_takes w f d t) e = differs 7 12 refl refl e
@@ -93,7 +93,7 @@ module _ {F T A : Type 0} where
       ClosesTaking p q = (w : State) × Fits CancelBusy w × (w.awaiter ≡ true) × TakesPlace (OfCancel n) (λ v. row CancelBusy w ∷ taking v) [] p q
 
       pub closes_taking : (p q : Party F T A) (a : ℕ) → Cancels n p q a → a ≡ 7 → ClosesTaking p q
-      closes_taking p q _ cancel_missed e = differs 0 7 refl refl e
+      closes_taking p q _ (cancel_missed _) e = differs 0 7 refl refl e
       closes_taking p q _ (was_over w f g) e = differs 12 7 refl refl e
       closes_taking p q _ (closes w notice f b g) e = differs 12 7 refl refl e
       closes_taking p q _ (closes_and_takes w f d t) e = (w, f, d, t)
@@ -111,7 +111,7 @@ module _ {F T A : Type 0} where
       Hands due p q = (w : State) × Fits CancelIdle w × (w.awaiter ≡ due) × Did (row CancelIdle w ∷ act HandOver ∷ []) (notifies due (OfCancel n)) p q
 
       pub hands_now : (p q : Party F T A) (a : ℕ) → Cancels n p q a → a ≡ 10 → Hands false p q
-      hands_now p q _ cancel_missed e = differs 0 10 refl refl e
+      hands_now p q _ (cancel_missed _) e = differs 0 10 refl refl e
       hands_now p q _ (was_over w f g) e = differs 12 10 refl refl e
       hands_now p q _ (closes w notice f b g) e = differs 12 10 refl refl e
       hands_now p q _ (closes_and_takes w f d t) e = differs 7 10 refl refl e
@@ -119,7 +119,7 @@ module _ {F T A : Type 0} where
       hands_now p q _ (schedules_due w f d g) e = differs 25 10 refl refl e
 
       pub hands_due : (p q : Party F T A) (a : ℕ) → Cancels n p q a → a ≡ 25 → Hands true p q
-      hands_due p q _ cancel_missed e = differs 0 25 refl refl e
+      hands_due p q _ (cancel_missed _) e = differs 0 25 refl refl e
       hands_due p q _ (was_over w f g) e = differs 12 25 refl refl e
       hands_due p q _ (closes w notice f b g) e = differs 12 25 refl refl e
       hands_due p q _ (closes_and_takes w f d t) e = differs 7 25 refl refl e

@@ -1,6 +1,6 @@
 -- What the steps of a cancel come to.
 use Rattle.task_cell.proofs.Vocabulary.{awaiter_first}
-use Rattle.std.proofs.Common.{◌≡◌, ℕ, Bool, true, false, List, [], ◌∷◌, ◌++◌, Option, Some, None, refl, sym, ap, ◌∙◌, subst}
+use Rattle.std.proofs.Common.{◌≡◌, ℕ, Bool, true, false, [], ◌∷◌, ◌++◌, Option, Some, None, refl, sym, ◌∙◌, subst}
 use Rattle.task_core.specs.Word.{State}
 use Rattle.task_core.specs.declared.acts.Act.TheVariants.{CancelBusy, CancelIdle, EndCall, EndNotify, HandOver, MissNotify, WakeAwaiter}
 use Rattle.task_cell.proofs.Moved.{did_then, limit_is, stands}
@@ -10,7 +10,7 @@ use Rattle.task_cell.specs.Calls.{BeginsNotify, EndsNotify}
 use Rattle.task_cell.specs.TaskPaths.{Cancels as CancelsRow}
 use Rattle.task_cell.specs.declared.cell.Party.{Party}
 use Rattle.task_exports.proofs.Notices.{at_rest, dealt, ends_after, in_hand as taken_hand, none_there as taken_none, passes_after, takes_after}
-use Rattle.task_exports.specs.TaskAnswers.{AtPlace, CancelGoesOn, Cancels, InHand, PassesBy, Releases, closes, closes_and_takes, finds_other, in_hand, none_due, none_there, passes_by, schedules, schedules_due, schedules_now, takes, taking, was_over}
+use Rattle.task_exports.specs.TaskAnswers.{CancelGoesOn, Cancels, PassesBy, Releases, closes, closes_and_takes, finds_other, in_hand, none_due, none_there, passes_by, schedules, schedules_due, schedules_now, takes, taking, was_over}
 use Rattle.task_laws.specs.Table.{after_cancelling, after_waking, notifies}
 use Rattle.task_laws.specs.declared.positions.Answer.TheVariants.{Nothing}
 use Rattle.task_laws.specs.declared.positions.NotifyingCall.TheVariants.{OfCancel}
@@ -19,7 +19,6 @@ use Rattle.task_laws.specs.declared.positions.Rest.TheVariants.{Task}
 use Rattle.task_steps.specs.Deeds.{act, row}
 use Rattle.task_steps.specs.Standing.{as_task, handed_over, rest_of, way_of}
 use Rattle.task_steps.specs.declared.places.Held.{Held}
-use Rattle.task_steps.specs.declared.table.Deed.{Deed}
 use Rattle.task_steps.specs.declared.task.Cancelled.{Cancelled}
 use Rattle.task_steps.specs.declared.task.Cancelled.TheVariants.{Busy, Idle}
 

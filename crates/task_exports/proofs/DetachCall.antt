@@ -1,15 +1,15 @@
 -- What the parts of a waker's drop come to, put together from its exports.
-use Rattle.std.proofs.Common.{◌≡◌, ℕ, Bool, true, false, List, [], ◌∷◌, ◌++◌, Option, Some, None, refl, sym, subst}
-use Rattle.task_core.specs.Word.{State}
-use Rattle.task_core.specs.declared.acts.Act.TheVariants.{CloseOrphan, DropLastWaker, DropWaker, EmptySlots, EndCall, HandOver, OrphanTask}
+use Rattle.std.proofs.Common.{◌≡◌, ℕ, false, List, [], ◌∷◌, ◌++◌, Option, Some, None, refl, is_some}
+use Rattle.task_core.specs.declared.acts.Act.TheVariants.{CloseOrphan, EmptySlots, EndCall, HandOver, OrphanTask}
 use Rattle.task_cell.proofs.Moved.{did_then, stands}
 use Rattle.task_cell.specs.Calls.{Did, DidWith, Stands}
 use Rattle.task_cell.specs.WakerPaths.{WakerDropPath, leaves_none as waker_none, leaves_orphan, leaves_others as waker_others}
 use Rattle.task_exports.proofs.EndsCall.{IsEmptier}
 use Rattle.task_exports.proofs.Numbers.{differs}
 use Rattle.task_exports.specs.Answers.{DropsWaker, empties, last_waker, orphan_waker, shared}
+use Rattle.task_exports.specs.CallPaths.{hands_on}
 use Rattle.task_exports.specs.Hands.{IsGone, IsLive}
-use Rattle.task_exports.specs.Parties.{CellParty}
+use Rattle.task_exports.specs.Parties.{CellParty, party_in}
 use Rattle.task_exports.specs.declared.hand.Hand.{Hand}
 use Rattle.task_laws.specs.declared.positions.Answer.TheVariants.{Nothing}
 use Rattle.task_laws.specs.declared.positions.Position.TheVariants.{Emptier}
@@ -38,6 +38,12 @@ overs : (Path : List Deed → Type 0) (x k : Hand) (path : List Deed) → IsGone
 overs Path x k path gone d is = (gone, stands x.party k.party path as_ended [] d, (path, is, d))
 
 module _ (x k : Hand) (Scheduled : Type 0) where
+  -- a record comes with one answer alone
+  pub waker_comes_with : (o : Option Hand) (n : ℕ) → DropsWaker x k (party_in o) n → is_some o ≡ hands_on n
+  waker_comes_with None _ (shared w a gone d) = refl
+  waker_comes_with None _ (last_waker w y a b live d) = refl
+  waker_comes_with (Some e) _ (orphan_waker w v ended a b live at d) = refl
+
   -- a waker's drop
   pub waker_hands_on : (ended : CellParty) (n : ℕ) → DropsWaker x k (Some ended) n → IsLive k × Stands as_runnable k.party × (Scheduled → (path : List Deed) × WakerDropPath Scheduled path × Did path as_ended x.party ended)
   waker_hands_on _ _ (orphan_waker w v ended a b live at d) = (live, at, λ fact. (row OrphanTask w ∷ row CloseOrphan v ∷ act HandOver ∷ act EndCall ∷ [], leaves_orphan w v a b fact, d))

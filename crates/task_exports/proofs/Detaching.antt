@@ -2,10 +2,9 @@
 use Rattle.task_steps.specs.Values.{Values}
 use Rattle.task_exports.proofs.Unknown.{output_unknown}
 use Rattle.task_cell.proofs.Vocabulary.{TaskPlace}
-use Rattle.std.proofs.Common.{◌≡◌, ℕ, Bool, true, false, List, [], ◌∷◌, ◌++◌, Option, Some, None, refl, sym, ap, ◌∙◌, subst}
-use Rattle.task_core.specs.Word.{State}
+use Rattle.std.proofs.Common.{◌≡◌, ℕ, Bool, true, false, List, None, refl, sym, ap, ◌∙◌}
 use Rattle.task_core.specs.declared.traits.Yields.{Ghosts}
-use Rattle.task_cell.proofs.Moved.{limit_is, stands}
+use Rattle.task_cell.proofs.Moved.{limit_is}
 use Rattle.task_cell.proofs.WakerMoves.{fresh_stands}
 use Rattle.task_cell.specs.Belongs.{IsOf, Leaves, limit_in}
 use Rattle.task_cell.specs.Calls.{DidWith, IsNew, Stands, limit_of}
@@ -14,12 +13,12 @@ use Rattle.task_cell.specs.declared.cell.Party.{Party}
 use Rattle.task_cell.specs.declared.cell.block.MaybeShare.{MaybeShare}
 use Rattle.task_cell.specs.declared.cell.block.Share.{Share}
 use Rattle.task_exports.specs.Hands.{IsGone}
-use Rattle.task_exports.specs.TaskAnswers.{Becomes, Detaches, EndsDetach, is_last, is_orphaned, is_shared, is_unclaimed, leaves_none, leaves_others}
+use Rattle.task_exports.specs.TaskAnswers.{Becomes, Detaches, EndsDetach, is_last, is_shared, is_unclaimed, leaves_none, leaves_others}
 use Rattle.task_exports.specs.declared.hand.Hand.{Hand}
 use Rattle.task_laws.specs.declared.positions.Position.{Position}
-use Rattle.task_steps.specs.Standing.{as_deliverer, as_runnable}
+use Rattle.task_steps.specs.Standing.{as_runnable}
 use Rattle.task_steps.specs.declared.table.Deed.{Deed}
-use Rattle.task_steps.specs.declared.task.Detached.TheVariants.{Last, Orphaned, Shared, Unclaimed}
+use Rattle.task_steps.specs.declared.task.Detached.TheVariants.{Last, Shared, Unclaimed}
 
 module _ {F T A : Type 0} where
   pub is_runnable : (p q : Party F T A) → IsNew as_runnable p q → Stands as_runnable q

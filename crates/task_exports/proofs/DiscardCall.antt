@@ -1,5 +1,5 @@
 -- What the parts of a Runnable's drop come to, put together from its exports.
-use Rattle.std.proofs.Common.{◌≡◌, ℕ, Bool, true, false, List, [], ◌∷◌, ◌++◌, Option, Some, None, refl, sym, subst}
+use Rattle.std.proofs.Common.{◌≡◌, ℕ, Bool, true, false, List, [], ◌∷◌, ◌++◌, Option, None, refl, sym, subst}
 use Rattle.task_core.specs.Word.{State}
 use Rattle.task_core.specs.declared.acts.Act.{Act}
 use Rattle.task_core.specs.declared.acts.Act.TheVariants.{BeginNotify, DropFuture, EmptySlots, EndCall, EndNotify, GiveUpLastReference, GiveUpReference, TakeAwaiter, Unschedule, WakeAwaiter}

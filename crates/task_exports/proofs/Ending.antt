@@ -1,7 +1,7 @@
 -- What the awaiter that was taken out of its place comes to.
 use Rattle.task_cell.specs.declared.cell.Party.{Party}
-use Rattle.task_cell.proofs.Vocabulary.{◌≡◌, ℕ, Bool, true, false, List, [], ◌∷◌, ◌++◌, Option, Some, None, refl, sym, subst, is_some, State, Answer, Nothing, Ran, Ended, AwaiterInHand, Emptier, GivingUp, CallEnding}
-use Rattle.task_cell.proofs.Vocabulary.{GiveUpReference, GiveUpLastReference, EndCall, EndNotify, WakeAwaiter, OfRun, OfDrop, Deed, DidWith, Did, Stands, row, act, as_ended, rest_of, position, places_of, way_of, after_taking, after_waking, after_giving_up, awaiter_first}
+use Rattle.task_cell.proofs.Vocabulary.{◌≡◌, ℕ, true, false, List, [], ◌∷◌, Option, Some, None, is_some, State, Answer, Nothing, Ran, Ended, AwaiterInHand, Emptier, GivingUp, CallEnding}
+use Rattle.task_cell.proofs.Vocabulary.{GiveUpReference, GiveUpLastReference, EndCall, EndNotify, WakeAwaiter, OfRun, OfDrop, Deed, DidWith, Did, Stands, row, act, rest_of, position, places_of, way_of, after_taking, after_waking, awaiter_first}
 use Rattle.task_cell.proofs.Moved as moved
 use Rattle.task_exports.specs.Hands.{IsLive, IsGone}
 use Rattle.task_exports.specs.Answers.{GivesBack, Finishes, over, wakes, last, last_wakes, Discarded}

@@ -90,3 +90,14 @@ module _ {M : Type 1} {𝓤 : Ura M} (𝓛 : Logic 𝓤) (ν₁ ν₂ ν₃ ν�
       use2 𝓛 (‵ (fat full_share share b 0 (vstruct (vcons (vstruct (vcons v (vcons nil_val vnil))) vnil)))) (𝓛.laws.struct_back full_share ν₂ (tcons maybe tnil) b 0 (vcons (vstruct (vcons v (vcons nil_val vnil))) vnil)) $
       nothing ! $ move ! (2 ∷ 0 ∷ []) $ join ! $ move ! (1 ∷ 0 ∷ []) $ join ! $ move ! (1 ∷ 0 ∷ []) $
       by ! (𝓛.laws.struct_back full_share ν₁ (tcons share (tcons party tnil)) b 0 (vcons (vstruct (vcons (vstruct (vcons v (vcons nil_val vnil))) vnil)) (vcons party_val vnil)))
+
+  -- what lies there as a hand is taken apart again
+  pub front : (v : Val) → ent 𝓤 (H.at full_share hand b 0 (bits v)) (mean 𝓛 (‵ (fat full_share ty_ptr b 0 v) ⊛ beside))
+  front v =
+      qed 𝓛 (‵ (fat full_share hand b 0 (bits v)) ∷ []) ∵
+      use1 𝓛 ((‵ (fat full_share share b 0 (vstruct (vcons (vstruct (vcons v (vcons nil_val vnil))) vnil))) ⊛ ‵ (fat full_share party b 8 party_val) ⊛ ‵ ftrue) ⊛ ‵ of_hand)
+      (𝓛.laws.struct_apart full_share ν₁ (tcons share (tcons party tnil)) b 0 (vcons (vstruct (vcons (vstruct (vcons v (vcons nil_val vnil))) vnil)) (vcons party_val vnil))) $ split ! $ split3 ! $
+      use1 𝓛 ((‵ (fat full_share maybe b 0 (vstruct (vcons v (vcons nil_val vnil)))) ⊛ ‵ ftrue) ⊛ ‵ of_share) (𝓛.laws.struct_apart full_share ν₂ (tcons maybe tnil) b 0 (vcons (vstruct (vcons v (vcons nil_val vnil))) vnil)) $ split ! $ split ! $
+      use1 𝓛 ((‵ (fat full_share ty_ptr b 0 v) ⊛ ‵ (fat full_share (marker ν₄) b 8 nil_val) ⊛ ‵ ftrue) ⊛ ‵ of_maybe) (𝓛.laws.struct_apart full_share ν₃ (tcons ty_ptr (tcons (marker ν₄) tnil)) b 0 (vcons v (vcons nil_val vnil))) $ split ! $ split3 ! $
+      -- [the pointer; the marker; nothing; the maybe's rest; nothing; the share's rest; the party; nothing; the hand's rest]
+      keep ! (0 ∷ 1 ∷ 3 ∷ 5 ∷ 6 ∷ 8 ∷ []) $ done !

@@ -1,7 +1,7 @@
 -- What the steps by which calls end come to for their party.
 use Rattle.task_cell.specs.declared.cell.Party.{Party}
-use Rattle.task_cell.proofs.Vocabulary.{◌≡◌, ℕ, Bool, true, false, List, [], ◌∷◌, ◌++◌, Option, Some, None, refl, sym, ap, ◌∙◌, subst, State, Answer, Ended, Position, At, CallEnding, Emptier, Fits}
-use Rattle.task_cell.proofs.Vocabulary.{GiveUpReference, GiveUpLastReference, EndCall, Deed, GivesUp, not_last, last, DidWith, Did, IsNew, StandsWith, Stands, row, act, as_ended, rest_of, position, after_giving_up, HandOver, handed_over, limit_of, Me, View}
+use Rattle.task_cell.proofs.Vocabulary.{◌≡◌, ℕ, Bool, true, false, List, [], ◌∷◌, ◌++◌, Option, Some, None, ap, ◌∙◌, subst, State, Answer, Ended, Position, CallEnding, Emptier, Fits}
+use Rattle.task_cell.proofs.Vocabulary.{GiveUpReference, GiveUpLastReference, EndCall, Deed, GivesUp, not_last, last, DidWith, Did, IsNew, Stands, row, act, as_ended, rest_of, position, after_giving_up, HandOver, handed_over, limit_of, Me, View}
 use Rattle.task_cell.proofs.Vocabulary.{NotifyingCall, AwaiterInHand, WakeAwaiter, EmptySlots, OfRun, Ran, is_some, after_waking, way_of, places_of, TaskPlace, awaiter_first}
 use Rattle.task_cell.proofs.Moved as moved
 use Rattle.task_cell.proofs.RunRest.{ended_call}

@@ -1,12 +1,12 @@
 -- What the ends of calls come to, put together from their steps.
-use Rattle.task_cell.proofs.Vocabulary.{◌≡◌, ℕ, Bool, true, false, List, [], ◌∷◌, ◌++◌, Option, Some, None, refl, sym, ap, ◌∙◌, subst, is_some, State, Answer, Ran, Ended, Position, At, CallEnding, AwaiterInHand, Emptier, GivingUp}
-use Rattle.task_cell.proofs.Vocabulary.{GiveUpReference, GiveUpLastReference, EndCall, EndNotify, WakeAwaiter, BeginNotify, MissNotify, TakeAwaiter, Releaser, Notifier, NotifyingCall, OfRun, OfDrop, Deed, DidWith, Did, StandsWith, Stands, row, act, as_ended}
-use Rattle.task_cell.proofs.Vocabulary.{limit_of, position, places_of, way_of, after_taking, after_waking, notifies, after_giving_up, awaiter_first}
+use Rattle.task_cell.proofs.Vocabulary.{◌≡◌, ℕ, Bool, true, false, List, [], ◌∷◌, ◌++◌, None, refl, ap, subst, Answer, Position, Emptier, GivingUp}
+use Rattle.task_cell.proofs.Vocabulary.{GiveUpReference, GiveUpLastReference, EndCall, BeginNotify, MissNotify, TakeAwaiter, Releaser, Notifier, NotifyingCall, Deed, DidWith, Did, Stands, row, act, as_ended}
+use Rattle.task_cell.proofs.Vocabulary.{limit_of, way_of, after_taking, awaiter_first}
 use Rattle.task_cell.proofs.Moved as moved
 use Rattle.task_cell.proofs.RunRest.{at_way}
-use Rattle.task_cell.specs.Calls.{BeginsNotify, finds_another, takes_place, EndsNotify}
-use Rattle.task_cell.specs.RunPaths.{NotifyPath, not_due, missed}
-use Rattle.task_exports.specs.Hands.{IsLive, IsGone}
+use Rattle.task_cell.specs.Calls.{BeginsNotify, finds_another, takes_place}
+use Rattle.task_cell.specs.RunPaths.{not_due, missed}
+use Rattle.task_exports.specs.Hands.{IsLive}
 use Rattle.task_exports.specs.Answers.{GivesBack, others, none_left, GoesOn, takes, gives, BeginsDue, is_past, GivesUpNext}
 use Rattle.task_exports.specs.Answers as answers
 use Rattle.task_exports.specs.declared.hand.Hand.{Hand}

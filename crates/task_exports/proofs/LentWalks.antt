@@ -1,5 +1,5 @@
 -- The names that the walks of what is lent share.
-pub use Rattle.task_exports.proofs.Walks.{ !, [], ◌∷◌, ◌≡◌, refl, proved, after, full_share, ftrue, fat, flft, froom, Ty, Val, fact, tables, ‵, raw, ◌⊛◌, some, at_ret, ◌$◌, ◌∵◌, qed, done, move, keep, drop, use0, use1, use2, split, join, fsplit, fjoin, feq_i, pick, rewrite, suffices, frame, group, enter, of_opd, stop, addr, from, forget, init, no_more, assigns, first, blocks, exec, returns, alloc_all, pass_all, free_all, look_at, get, through, sets, sets_last, take_at, give_at, env, yes, shows, Is, lone, Ptr, ptr_val, ty_ptr, rawptr_Lawful, RattleType, plain, nothing, heard, peeks, id⊢, Stays, walk_of, says, stay_dropped, ends_at, apply∗, wand, sep}
+pub use Rattle.task_exports.proofs.Walks.{ !, List, ℕ, Fml, Item, Logic, Ura, ent, load, look, named, [], ◌∷◌, ◌≡◌, refl, proved, after, full_share, ftrue, fat, flft, froom, Ty, Val, fact, tables, ‵, raw, ◌⊛◌, some, at_ret, ◌$◌, ◌∵◌, qed, done, move, keep, drop, use0, use1, use2, split, join, fsplit, fjoin, feq_i, pick, rewrite, suffices, frame, group, enter, of_opd, stop, addr, from, forget, init, no_more, assigns, first, blocks, exec, returns, alloc_all, pass_all, free_all, look_at, get, through, sets, sets_last, take_at, give_at, env, yes, shows, Is, lone, Ptr, ptr_val, ty_ptr, rawptr_Lawful, RattleType, plain, nothing, heard, peeks, id⊢, Stays, walk_of, says, stay_dropped, ends_at, apply∗, wand, sep}
 pub use base.Logic.{snd∗, ex_e}
 pub use base.Before.{before}
 pub use base.Fml.{Lft, Share, fsep, fdead}
@@ -22,3 +22,8 @@ pub use denote.Triple.Entry.{on_entry}
 pub use denote.Triple.Spec.{triple_of}
 pub use denote.Triple.Walked.{Goes-dropped}
 pub use denote.Triple.Table.{framed}
+pub use base.Logic.{emp}
+pub use contract.Monad.{fact_i}
+pub use types.Kit.{feq_l}
+pub use denote.Builtin.{RefOf}
+pub use denote.Ref.{shr_Tells}

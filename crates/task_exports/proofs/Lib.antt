@@ -2,6 +2,7 @@ pub mod Walks
 pub mod Filled
 pub mod Lending
 pub mod LentWalks
+pub mod Shown
 pub mod Along
 pub mod Live
 pub mod Given
@@ -16,6 +17,7 @@ pub mod Registering
 pub mod Detaching
 pub mod Polling
 pub mod Crossing
+pub mod Told
 pub mod Numbers
 pub mod Released
 pub mod CancelCall

@@ -54,8 +54,8 @@ module _ {R F Q M A B O T : Type 0} {G : Ghosts F O} where
 
   -- the record of a call by reference, which lies beside a share that is gone
   pub records : (before gone : MaybeShare R F Q M A B O G) (share : Share R F Q M A B O G) (path : List Deed) (p : Party F T A) → Taken before share → Leaves share gone false → HasMade share path p
-      → (gone.maybe.there ≡ false) × (p.seat.block ≡ before.maybe.id) × (p.seat.me ≡ (view before.maybe.key.limit (member as_lent (after path []) ∷ []), []))
-  records before gone share path p taken leaves made = (leaves.is_there, made.0 ∙ taken.0, made.1 ∙ ap (λ k. (view k.limit (member as_lent (after path []) ∷ []), [])) taken.1)
+      → ((gone.maybe.there ≡ false) × (gone.maybe.id ≡ before.maybe.id)) × (p.seat.block ≡ before.maybe.id) × (p.seat.me ≡ (view before.maybe.key.limit (member as_lent (after path []) ∷ []), []))
+  records before gone share path p taken leaves made = ((leaves.is_there, leaves.cell.0 ∙ taken.0), made.0 ∙ taken.0, made.1 ∙ ap (λ k. (view k.limit (member as_lent (after path []) ∷ []), [])) taken.1)
 
   -- the same by a share of the same cell, which a step that was not made has handed back
   pub lives_kept : (before later : MaybeShare R F Q M A B O G) (share kept : Share R F Q M A B O G) (p q : Party F T A) (path : List Deed) (at : Position) (held : List (ℕ × TaskPlace F T A))

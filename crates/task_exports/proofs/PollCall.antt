@@ -39,7 +39,7 @@ finished n p q _ (is_not w e d) = (w, ap not (sym e), d)
 
 -- a party is one of the cell at its place after an export, and after what it did
 pub at_after : (h k : Handle) → IsFull h → Keeps h k → IsAt h.hand.party k
-at_after h k f s = (s.0, s.1, f.1.1 ∙ sym (ap (λ c. c.0) s.2), f.1.2 ∙ sym s.3)
+at_after h k f s = (s.0, s.1, f.1.1 ∙ sym s.2, f.1.2 ∙ sym s.4)
 
 pub at_then : (p q : CellParty) (k : Handle) (path : List Deed) (at : Position) (held : _) → IsAt p k → DidWith path at held p q → IsAt q k
 at_then p q k path at held x g = (x.0, x.1, g.cell ∙ x.2, limit_is p q path at held g ∙ x.3)
@@ -49,7 +49,7 @@ pub full_there : (p : CellParty) (k : Handle) (path : List Deed) (at : Position)
 full_there p k path at held x g = let y = at_then p k.hand.party k path at held x g in (y.0, (y.1, y.2, y.3))
 
 pub keeps_at : (p : CellParty) (k : Handle) → IsAt p k → Keeps k k
-keeps_at p k x = (x.0, x.1, refl, refl)
+keeps_at p k x = (x.0, x.1, refl, refl, refl)
 
 -- what an option holds
 abbrev held_or : {X : Type 0} → X → Option X → X
@@ -144,10 +144,10 @@ ends_by a = nat_eq a 7 || (nat_eq a 16 || (nat_eq a 17 || nat_eq a 24))
 
 module _ (first : Bool) (i : ℕ) (p q : CellParty) where
   by_end : (b : Bool) (a : ℕ) → LooksBy b i p q a → ends_by a ≡ true → Answers i (claims_by b) p q a
-  by_end true _ poll_missed k = never k
+  by_end true _ (poll_missed _) k = never k
   by_end true a (answers _ x) k = x
   by_end true _ (registers w e f d) k = never k
-  by_end false _ look_missed k = never k
+  by_end false _ (look_missed _) k = never k
   by_end false a (answers_now _ x) k = x
   by_end false _ (waits w e d) k = never k
 
@@ -166,7 +166,7 @@ module _ (first : Bool) (i : ℕ) (p q : CellParty) where
 
 -- a first look that has found neither, by its answer
 pub found_nothing : {F T A : Type 0} (i : ℕ) (p q : Party F T A) (a : ℕ) → Polls i p q a → a ≡ 19 → (w : State) × (has_output w ≡ false) × (has_ended w ≡ false) × Did (row Look w ∷ []) (Registrar i) p q
-found_nothing i p q _ poll_missed h = differs 0 19 refl refl h
+found_nothing i p q _ (poll_missed _) h = differs 0 19 refl refl h
 found_nothing i p q _ (answers _ (has_it w z notice e o b d)) h = differs 16 19 refl refl h
 found_nothing i p q _ (answers _ (has_it_and_takes w z e o b t)) h = differs 24 19 refl refl h
 found_nothing i p q _ (answers _ (ends w v e f d)) h = differs 17 19 refl refl h
@@ -240,8 +240,8 @@ module _ {F T A : Type 0} (i : ℕ) (p q : Party F T A) where
       × DidWith (act CloneAwaiter ∷ row BeginRegister w ∷ act StoreAwaiter ∷ []) (after_storing i old) (awaiter_first (Some clone) []) p q
 
   pub storing : (stood : Bool) (a : ℕ) → Stores i p q a → a ≡ (if stood then 21 else 20) → Storing stood
-  storing false _ store_missed h = differs 0 20 refl refl h
-  storing true _ store_missed h = differs 0 21 refl refl h
+  storing false _ (store_missed _) h = differs 0 20 refl refl h
+  storing true _ (store_missed _) h = differs 0 21 refl refl h
   storing false _ (stores w _ clone _ e alone d) h = (None, clone, refl, w, e, d)
   storing true _ (stores w _ clone _ e alone d) h = differs 20 21 refl refl h
   storing false _ (stores w _ clone _ e (over old) d) h = differs 21 20 refl refl h
@@ -254,7 +254,7 @@ module _ {F T A : Type 0} (i : ℕ) (p q : Party F T A) where
   FoundNotifier = (w : State) × (w.notifying ≡ true) × Did (act CloneAwaiter ∷ row FindNotify w ∷ []) (UnusedClone i) p q
 
   pub found_notifier : (a : ℕ) → Stores i p q a → a ≡ 22 → FoundNotifier
-  found_notifier _ store_missed h = differs 0 22 refl refl h
+  found_notifier _ (store_missed _) h = differs 0 22 refl refl h
   found_notifier _ (stores w _ clone _ e alone d) h = differs 20 22 refl refl h
   found_notifier _ (stores w _ clone _ e (over old) d) h = differs 21 22 refl refl h
   found_notifier _ (finds_notifier w e d) h = (w, e, d)
@@ -264,7 +264,7 @@ module _ {F T A : Type 0} (i : ℕ) (p q : Party F T A) where
   TakingBack stood = (clone : A) × DidWith (dropped_if stood ++ act TakeAwaiter ∷ []) (TookBack i) (awaiter_first (Some clone) []) p q
 
   not_back : {Y : Type 0} (b : Party F T A) (a : ℕ) → LooksOn i b q a → a ≡ 23 → Y
-  not_back b _ look_missed h = differs 0 23 refl refl h
+  not_back b _ (look_missed _) h = differs 0 23 refl refl h
   not_back b _ (answers_now _ (has_it w z notice e o x d)) h = differs 16 23 refl refl h
   not_back b _ (answers_now _ (has_it_and_takes w z e o x t)) h = differs 24 23 refl refl h
   not_back b _ (answers_now _ (ends w v e f d)) h = differs 17 23 refl refl h
@@ -272,7 +272,7 @@ module _ {F T A : Type 0} (i : ℕ) (p q : Party F T A) where
   not_back b _ (waits w e d) h = differs 18 23 refl refl h
 
   pub taking_back : (stood : Bool) (a : ℕ) → EndsStore i stood p q a → a ≡ 23 → TakingBack stood
-  taking_back stood _ end_missed h = differs 0 23 refl refl h
+  taking_back stood _ (end_missed _) h = differs 0 23 refl refl h
   taking_back stood a (looks v _ e l) h = not_back l.0 a l.2 h
   taking_back stood _ (has_to_take_back clone d) h = (clone, d)
 
@@ -282,7 +282,7 @@ module _ {F T A : Type 0} (i : ℕ) (p q : Party F T A) where
     Stored stood a = (path : List Deed) × EndsRegister woken clone stood path × LooksAfter i path p q a
 
     stays : (stood : Bool) (a : ℕ) → EndsStore i stood p q a → is_look a ≡ true → Stored stood a
-    stays stood _ end_missed k = never k
+    stays stood _ (end_missed _) k = never k
     stays stood a (looks v _ e l) k = (dropped_if stood ++ row EndRegister v ∷ [], stays_there v e, l)
     stays stood _ (has_to_take_back clone d) k = never k
 
@@ -330,7 +330,7 @@ module _ {F T A W K : Type 0} (cloned : W → Result W K → Type 0) (woken woke
 
 -- the poll waits
 pub has_to : {F T A : Type 0} (i : ℕ) (p q : Party F T A) (a : ℕ) → LooksOn i p q a → a ≡ 18 → (w : State) × (has_to_wait w ≡ true) × Did (row Look w ∷ act EndCall ∷ []) (as_task i) p q
-has_to i p q _ look_missed h = differs 0 18 refl refl h
+has_to i p q _ (look_missed _) h = differs 0 18 refl refl h
 has_to i p q _ (answers_now _ (has_it w z notice e o x d)) h = differs 16 18 refl refl h
 has_to i p q _ (answers_now _ (has_it_and_takes w z e o x t)) h = differs 24 18 refl refl h
 has_to i p q _ (answers_now _ (ends w v e f d)) h = differs 17 18 refl refl h

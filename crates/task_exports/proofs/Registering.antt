@@ -96,6 +96,6 @@ module _ {F T A : Type 0} where
   takes_back i p q (Some old, clone, e, s) x = never (sym e)
 
   pub stored_after : (i : ℕ) (stood : Bool) (p q r : Party F T A) (a : ℕ) → Settles i stood p q → EndsStore i false q r a → EndsStore i stood p r a
-  stored_after i stood p q r _ x end_missed = end_missed
+  stored_after i stood p q r _ x (end_missed m) = end_missed m
   stored_after i stood p q r _ x (looks v a e l) = looks v a e (l.0, did_then p q l.0 (dropped_if stood) (row EndRegister v ∷ []) (Registered i) (Looking i) (awaiter_first (Some x.0) []) [] x.1 l.1, l.2)
   stored_after i stood p q r _ x (has_to_take_back clone g) = has_to_take_back clone (did_then p q r (dropped_if stood) (act TakeAwaiter ∷ []) (Registered i) (TookBack i) (awaiter_first (Some x.0) []) (awaiter_first (Some clone) []) x.1 g)

@@ -38,10 +38,10 @@ module _ {F T A : Type 0} where
 
 -- what a place keeps, through two calls
 pub keeps_then : (a b c : Handle) → Keeps a b → Keeps b c → Keeps a c
-keeps_then a b c x y = (y.0, y.1, y.2 ∙ x.2, y.3 ∙ x.3)
+keeps_then a b c x y = (y.0, y.1, y.2 ∙ x.2, y.3 ∙ x.3, y.4 ∙ x.4)
 
 pub keeps_itself : (a : Handle) → IsFull a → Keeps a a
-keeps_itself a f = (f.0, f.1.0, refl, refl)
+keeps_itself a f = (f.0, f.1.0, refl, refl, refl)
 
 pub keeps_on : {X : Type 0} (o : Option X) (a b c : Handle) → Keeps a b → IfSome o (λ _. Keeps b c) → IfSome o (λ _. Keeps a c)
 keeps_on None a b c x y = y

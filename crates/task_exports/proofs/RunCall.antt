@@ -1,6 +1,6 @@
 -- What the parts of a run come to, put together from its exports.
 use Rattle.std.proofs.Common.{◌≡◌, ℕ, Bool, true, false, List, [], ◌∷◌, ◌++◌, Option, Some, None, if◌then◌else◌, refl, sym, subst}
-use Rattle.std.specs.Prelude.{IfSome, nat_eq}
+use Rattle.std.specs.Prelude.{IfSome, is_some, nat_eq}
 use Rattle.task_exports.specs.Unknown.{unknown}
 use Rattle.task_core.specs.Word.{State}
 use Rattle.task_core.specs.declared.acts.Act.{Act}
@@ -17,9 +17,9 @@ use Rattle.task_exports.proofs.EndsCall.{IsEmptier}
 use Rattle.task_exports.proofs.Numbers.{differs, joined}
 use Rattle.task_exports.specs.Answers.{Completed, Finishes, GivesBack, GoesOn, Pends, Starts, empties}
 use Rattle.task_exports.specs.Answers as answers
-use Rattle.task_exports.specs.CallPaths.{Done, EndsTaken, ends_taken}
+use Rattle.task_exports.specs.CallPaths.{Done, EndsTaken, ends_taken, hands_on as hands_on_by}
 use Rattle.task_exports.specs.Hands.{IsGone, IsLive}
-use Rattle.task_exports.specs.Parties.{CellParty}
+use Rattle.task_exports.specs.Parties.{CellParty, party_in}
 use Rattle.task_exports.specs.declared.hand.Hand.{Hand}
 use Rattle.task_exports.specs.declared.hand.Record.{Record}
 use Rattle.task_laws.specs.declared.positions.Answer.TheVariants.{Ran}
@@ -186,7 +186,7 @@ module _ (Woken : Type 0) where
       Kept m = (w : State) × (w.task ≡ true) × (w.closed ≡ false) × GoesOn OfRun w.awaiter (completed w) x k m
 
       pub kept : (m n : ℕ) → Completed x k n → n ≡ m → nat_eq 0 m ≡ false → nat_eq 5 m ≡ false → nat_eq 6 m ≡ false → nat_eq m m ≡ true → Kept m
-      kept m _ answers.complete_missed e a b c is_m = differs 0 m a is_m e
+      kept m _ (answers.complete_missed _) e a b c is_m = differs 0 m a is_m e
       kept m _ (answers.keeps w n t f g) e a b c is_m = (w, t, f, subst (λ l. GoesOn OfRun w.awaiter (completed w) x k l) e g)
       kept m _ (answers.unclaimed w z t f live d) e a b c is_m = neither (Kept m) w.awaiter m e b c is_m
       kept m _ (answers.detached w z t live d) e a b c is_m = neither (Kept m) w.awaiter m e b c is_m
@@ -223,13 +223,13 @@ module _ (Woken : Type 0) where
       at_none false u e = u
 
       pub unclaimed : (n : ℕ) → Completed x k n → n ≡ 5 → Unclaimed false
-      unclaimed _ answers.complete_missed e = differs 0 5 refl refl e
+      unclaimed _ (answers.complete_missed _) e = differs 0 5 refl refl e
       unclaimed _ (answers.keeps w n a b g) e = goes_by (Unclaimed false) w.awaiter _ x k n 5 g e refl refl refl refl
       unclaimed _ (answers.unclaimed w z a b live d) e = at_none w.awaiter (not_claimed_by w z a b live d) e
       unclaimed _ (answers.detached w z a live d) e = at_none w.awaiter (detached_by w z a live d) e
 
       pub unclaimed_due : (n : ℕ) → Completed x k n → n ≡ 6 → Unclaimed true
-      unclaimed_due _ answers.complete_missed e = differs 0 6 refl refl e
+      unclaimed_due _ (answers.complete_missed _) e = differs 0 6 refl refl e
       unclaimed_due _ (answers.keeps w n a b g) e = goes_by (Unclaimed true) w.awaiter _ x k n 6 g e refl refl refl refl
       unclaimed_due _ (answers.unclaimed w z a b live d) e = at_due w.awaiter (not_claimed_by w z a b live d) e
       unclaimed_due _ (answers.detached w z a live d) e = at_due w.awaiter (detached_by w z a live d) e
@@ -244,17 +244,25 @@ module _ (Woken : Type 0) where
       Cleared p q = (w : State) × (rest : List Deed) × (w.closed ≡ true) × RestPath Woken w.awaiter rest × Did (row EndClosed w ∷ rest) as_ended p q
 
       module _ (x k : Hand) where
+        -- a record comes with these answers alone
+        pub comes_with : (o : Option Hand) (n : ℕ) → Pends x k (party_in o) n → is_some o ≡ hands_on_by n
+        comes_with None _ (answers.pend_missed _) = refl
+        comes_with None _ (answers.closed y live d) = refl
+        comes_with None _ (answers.idle w a b c gone d) = refl
+        comes_with (Some e) _ (answers.woken w ended a b live at d) = refl
+        comes_with (Some e) _ (answers.orphaned w ended a b c live at d) = refl
+
         pub hands_on : (ended : CellParty) (n : ℕ) → Pends x k (Some ended) n → IsLive k × Stands as_runnable k.party × (Scheduled (nat_eq n 11) → Pended (nat_eq n 11) x.party ended)
         hands_on _ _ (answers.woken w ended a b live at d) = (live, at, λ fact. (_, paths.woken_meanwhile w a b fact, (tt, (tt, (tt, (tt, tt)))), d))
         hands_on _ _ (answers.orphaned w ended a b c live at d) = (live, at, λ fact. (_, paths.orphaned w a b c fact, (tt, (tt, (tt, (tt, tt)))), d))
 
         pub is_idle : (n : ℕ) → Pends x k None n → n ≡ 1 → IsGone k × Stands as_ended k.party × Pended false x.party k.party
-        is_idle _ answers.pend_missed e = differs 0 1 refl refl e
+        is_idle _ (answers.pend_missed _) e = differs 0 1 refl refl e
         is_idle _ (answers.closed y live d) e = differs 4 1 refl refl e
         is_idle _ (answers.idle w a b c gone d) e = (gone, stands _ _ _ _ _ d, (_, paths.idle w a b c, (tt, (tt, (tt, tt))), d))
 
         pub is_cleared : (n : ℕ) → Pends x k None n → n ≡ 4 → IsLive k × ((y : _) × StandsWith PendingFutureDropped (work_first y []) k.party) × (did DropFuture → (q : CellParty) → Cleared k.party q → Pended false x.party q)
-        is_cleared _ answers.pend_missed e = differs 0 4 refl refl e
+        is_cleared _ (answers.pend_missed _) e = differs 0 4 refl refl e
         is_cleared _ (answers.closed y live d) e = (
           live,
           (y, stands _ _ _ _ _ d),
@@ -278,7 +286,7 @@ module _ (Woken : Type 0) where
 
         module _ (x k : Hand) where
           pub finds_closed : (n : ℕ) → Starts x k n → n ≡ 4 → IsLive k × ((y : _) × StandsWith (FutureGone ClosedRun) (work_first y []) k.party) × (did DropFuture → (q : CellParty) → Closes k.party q → Runs false x.party q)
-          finds_closed _ answers.start_missed e = differs 0 4 refl refl e
+          finds_closed _ (answers.start_missed _) e = differs 0 4 refl refl e
           finds_closed _ (answers.polls live t) e = differs 3 4 refl refl e
           finds_closed _ (answers.finds_closed live (starting.finds_closed w y a f d)) e = (
             live,
@@ -296,7 +304,7 @@ module _ (Woken : Type 0) where
             polls : (w : State) (y : _) → w.closed ≡ false → IsFuture unknown y → DidWith (row StartRun w ∷ act StartPoll ∷ []) Polling (work_first y []) x.party k.party → Polls
 
           pub starts : (n : ℕ) → Starts x k n → n ≡ 3 → IsLive k × Polls
-          starts _ answers.start_missed e = differs 0 3 refl refl e
+          starts _ (answers.start_missed _) e = differs 0 3 refl refl e
           starts _ (answers.polls live (starting.starts w y a f d)) e = (live, polls w y a f d)
           starts _ (answers.finds_closed live t) e = differs 4 3 refl refl e
 

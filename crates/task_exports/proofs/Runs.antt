@@ -1,9 +1,9 @@
 -- What the steps of a run come to for its hand.
 use Rattle.task_steps.specs.Values.{Values}
 use Rattle.task_cell.specs.declared.cell.Party.{Party}
-use Rattle.task_cell.proofs.Vocabulary.{◌≡◌, ℕ, Bool, true, false, ◌&&◌, not, if◌then◌else◌, List, [], ◌∷◌, Option, Some, ap, ◌∙◌, sym, subst, State, Empty, TakesUp, finds_closed, starts}
-use Rattle.task_cell.proofs.Vocabulary.{Completes, keeps, finds_detached, DidWith, Did, StandsWith, Stands, limit_of, row, act, notifies, OfRun, ReadyFutureDropped, OutputInHand}
-use Rattle.task_cell.proofs.Vocabulary.{AnswerReady, DropFuture, StoreOutput, Complete, CompleteDetached, TaskPlace, work_first}
+use Rattle.task_cell.proofs.Vocabulary.{◌≡◌, ℕ, Bool, true, false, ◌&&◌, not, if◌then◌else◌, List, [], ◌∷◌, ap, ◌∙◌, subst, State, Empty, TakesUp, finds_closed, starts}
+use Rattle.task_cell.proofs.Vocabulary.{Completes, keeps, finds_detached, DidWith, Stands, row, act, notifies, OfRun, ReadyFutureDropped}
+use Rattle.task_cell.proofs.Vocabulary.{AnswerReady, DropFuture, StoreOutput, Complete, TaskPlace, work_first}
 use Rattle.task_cell.specs.RunCalls.{finds_closed as found_closed}
 use Rattle.task_cell.proofs.Moved as moved
 use Rattle.task_exports.specs.Hands.{IsLive}

@@ -1,5 +1,5 @@
 -- The names that the walks of the places share.
-pub use Rattle.std.proofs.Common.{◌≡◌, Bool, true, false, ℕ, List, [], ◌∷◌, refl, sym, ap, ◌∙◌}
+pub use Rattle.std.proofs.Common.{◌≡◌, Bool, true, false, ℕ, List, [], ◌∷◌, ◌++◌, refl, sym, ap, ◌∙◌}
 pub use Rattle.std.proofs.raw_atomic.Walks.{proved}
 pub use Rattle.std.proofs.VecSteps.Shapes.{after}
 pub use Rattle.std.proofs.alloc.Calls.{Goes-blank}
@@ -19,12 +19,12 @@ pub use denote.Exit.{yes, rest}
 pub use denote.Laws.{shows, Is}
 pub use denote.Memory.{cell_at, part_at, lone}
 pub use denote.RawPtr.{Ptr, lies_at, room_at, in_a_block}
-pub use denote.RattleType.{RattleType}
+pub use denote.RattleType.{RattleType, Valss, owns}
 pub use denote.Ref.{MutRef, mut_vals, mut_Tells}
 pub use denote.Signature.{plain}
 pub use denote.Steps.{nothing, opens, closes, heard, peeks}
 pub use denote.Triple.Walked.{Stays, walk_of, says, stay_dropped, stay_ref, Goes-ref, ends_at}
-pub use base.Fml.{Fml, fleft}
+pub use base.Fml.{Fml, feq, fleft, fsep}
 pub use base.Logic.{apply∗, ent, sep, wand}
 pub use denote.RawPtr.{ptr_val, rawptr_Lawful}
 pub use denote.Shadow.{makes_shadow}
@@ -32,10 +32,10 @@ pub use denote.Struct.Owning.{shape}
 pub use denote.Struct.Struct.{Struct}
 pub use lib.Dec.{lit<}
 pub use mir.Syntax.{Sym, ty_int, ty_ptr, ty_struct, tcons, tnil, w64}
-pub use mir.Val.{vstruct, vcons, vnil}
+pub use mir.Val.{of_list, vstruct, vcons, vnil}
 pub use seplogic.Ra.Ura.{Ura}
 pub use types.ByLocal.{get_in, take_at, give_at}
 pub use types.Kit.{Item, mean, by, drop, fpick, fpack, split3, use0}
 pub use types.Logic.{Logic}
 pub use types.Part.{agg}
-pub use types.Run.{addr, assigns, forget, from, lit, no_more}
+pub use types.Run.{addr, and_then, assigns, forget, from, lit, no_more}

@@ -1,5 +1,5 @@
 -- What the exports answer, by the number of the answer: what the handle's party did, where it stands, and what its place has then.
-use Rattle.std.specs.Prelude.{◌≡◌, ℕ, ◌||◌, nat_lt, Bool, true, false, if◌then◌else◌, List, [], ◌∷◌, ◌++◌, Option, Some, None}
+use Rattle.std.specs.Prelude.{◌≡◌, ◌-◌, ◌^◌, ℕ, ◌||◌, nat_lt, Bool, true, false, if◌then◌else◌, List, [], ◌∷◌, ◌++◌, Option, Some, None}
 use Rattle.task_core.specs.Word.{State, is_open}
 use Rattle.task_core.specs.declared.acts.Act.TheVariants.{GiveUpReference, GiveUpLastReference, EndCall, BeginNotify, EndNotify, TakeAwaiter}
 use Rattle.task_core.specs.declared.acts.Act.TheVariants.{WakeAwaiter, AnswerReady, AnswerPending, DropFuture, StoreOutput, Complete}
@@ -10,6 +10,7 @@ use Rattle.task_laws.specs.declared.positions.NotifyingCall.{NotifyingCall}
 use Rattle.task_laws.specs.declared.positions.NotifyingCall.TheVariants.{OfRun, OfDrop}
 use Rattle.task_laws.specs.declared.positions.Position.TheVariants.{AwaiterInHand, Emptier, GivingUp, OutputInHand, PendingFutureDropped, Releaser}
 use Rattle.task_laws.specs.Table.{after_taking}
+use Rattle.task_steps.specs.Attempts.{HasMissed}
 use Rattle.task_steps.specs.declared.table.Deed.{Deed}
 use Rattle.task_steps.specs.Deeds.{row, act, after}
 use Rattle.task_steps.specs.Rule.{Waits, member, view}
@@ -21,7 +22,7 @@ use Rattle.task_cell.specs.RunPaths.{NotifyPath}
 use Rattle.task_cell.specs.Starts.{TakesUp}
 use Rattle.task_exports.specs.Unknown.{unknown}
 use Rattle.task_cell.specs.WakerPaths.{GainPath, TaskWakePath}
-use Rattle.task_exports.specs.Hands.{IsLive, IsGone, SameCell}
+use Rattle.task_exports.specs.Hands.{IsLive, IsGone, IsRecordOf, SameCell}
 use Rattle.task_exports.specs.Parties.{CellParty}
 use Rattle.task_exports.specs.declared.hand.Hand.{Hand}
 use Rattle.task_exports.specs.declared.handle.Handle.{Handle}
@@ -39,7 +40,7 @@ pub data Made : ℕ → Handle → Handle → Type 0 where
 
 -- a run begins: 3, the future is to be polled; 4, the task was closed
 pub data Starts (x k : Hand) : ℕ → Type 0 where
-  start_missed : Starts x k 0
+  start_missed : HasMissed (2 ^ 64 - 1) k.party.seat.me → Starts x k 0
   polls : IsLive k → TakesUp unknown x.party k.party true → Starts x k 3
   finds_closed : IsLive k → TakesUp unknown x.party k.party false → Starts x k 4
 
@@ -81,7 +82,7 @@ GivesUpNext way = (answer : Answer) × (after_taking None way ≡ GivingUp None 
 
 -- a run that has ended with its output: 5 and 6, nobody will claim it; else the run goes on
 pub data Completed (x k : Hand) : ℕ → Type 0 where
-  complete_missed : Completed x k 0
+  complete_missed : HasMissed (2 ^ 64 - 1) k.party.seat.me → Completed x k 0
   keeps : (w : State) (r : ℕ) → w.task ≡ true → w.closed ≡ false
       → GoesOn OfRun w.awaiter (act AnswerReady ∷ act DropFuture ∷ act StoreOutput ∷ row Complete w ∷ []) x k r → Completed x k r
   unclaimed : (w : State) (z : _) → w.task ≡ true → w.closed ≡ true → IsLive k
@@ -94,7 +95,7 @@ pub data Completed (x k : Hand) : ℕ → Type 0 where
 
 -- a run whose poll answered Pending: 4, the task was closed; 11 and 10, its Runnable, by a party that has ended; 1, the call has ended
 pub data Pends (x k : Hand) : Option CellParty → ℕ → Type 0 where
-  pend_missed : Pends x k None 0
+  pend_missed : HasMissed (2 ^ 64 - 2) k.party.seat.me → Pends x k None 0
   closed : (y : _) → IsLive k → DidWith (act AnswerPending ∷ act DropFuture ∷ []) PendingFutureDropped (work_first y []) x.party k.party → Pends x k None 4
   woken : (w : State) (ended : CellParty) → w.closed ≡ false → w.scheduled ≡ true → IsLive k → Stands as_runnable k.party
       → Did (act AnswerPending ∷ row Reschedule w ∷ act HandOver ∷ act EndCall ∷ []) as_ended x.party ended → Pends x k (Some ended) 11
@@ -112,7 +113,7 @@ pub data Discarded (x k : Hand) : Option ℕ → ℕ → Type 0 where
 -- what a call by reference in the cell of x has left of itself: a party that was lent for it, and did this and nothing else
 abbrev pub Records : List Deed → Hand → Hand → Type 0
 Records path x k =
-    IsGone k × (k.party.seat.block ≡ x.share.maybe.id) × (k.party.seat.me ≡ (view x.share.maybe.key.limit (member as_lent (after path []) ∷ []), []))
+    IsRecordOf x k × (k.party.seat.block ≡ x.share.maybe.id) × (k.party.seat.me ≡ (view x.share.maybe.key.limit (member as_lent (after path []) ∷ []), []))
 
 -- a wake: 10, a Runnable is to be scheduled; 12, there is none
 pub data Wakes (x k : Hand) : ℕ → Type 0 where

@@ -18,6 +18,10 @@ use Rattle.task_steps.specs.Deeds.{row, act}
 use Rattle.task_steps.specs.PollScripts.{has_ended, has_output}
 use Rattle.task_steps.specs.declared.table.Deed.{Deed}
 
+-- the answers by which a call ends that has handed its share on
+abbrev pub hands_on : ℕ → Bool
+hands_on n = nat_eq n 10 || nat_eq n 11
+
 -- what was taken out of the awaiter's place is woken, where something lay there
 pub data WakesTaken (Woken : Type 0) : List Deed → Type 0 where
   finds_none : (v : State) → WakesTaken Woken (row EndNotify v ∷ [])

@@ -7,6 +7,10 @@ use Rattle.task_exports.specs.declared.hand.Hand.{Hand}
 abbrev pub SameCell : Hand → Hand → Type 0
 SameCell x y = (x.share.maybe.id ≡ y.share.maybe.id) × (x.share.maybe.value ≡ y.share.maybe.value)
 
+-- two hands of the same bits, which are the address of their block
+abbrev pub SameBits : Hand → Hand → Type 0
+SameBits x y = y.share.maybe.id ≡ x.share.maybe.id
+
 -- the share is there, and the party is one of its cell
 abbrev pub IsLive : Hand → Type 0
 IsLive x = (x.share.maybe.there ≡ true) × (x.party.seat.block ≡ x.share.maybe.id) × (limit_of x.party ≡ x.share.maybe.key.limit)
@@ -14,3 +18,7 @@ IsLive x = (x.share.maybe.there ≡ true) × (x.party.seat.block ≡ x.share.may
 -- the share is gone
 abbrev pub IsGone : Hand → Type 0
 IsGone x = x.share.maybe.there ≡ false
+
+-- the record of a call by the hand x: its share is gone, and it has the same bits
+abbrev pub IsRecordOf : Hand → Hand → Type 0
+IsRecordOf x k = IsGone k × SameBits x k

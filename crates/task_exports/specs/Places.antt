@@ -22,9 +22,13 @@ grip_if false p x = room_at grip_row p
 abbrev pub owned : hand_row.Denot → Fml
 owned x = fex Val (λ v. hand_row.own_val x (v ∷ []))
 
+-- the pointer is the address of its block
+abbrev pub address_of : Ptr → hand_row.Denot → Fml
+address_of p x = fex (p ≡ place x.share.maybe.id) (λ _. ftrue)
+
 -- what a handle owns whose bits are the address of its block
 abbrev pub owned_at : Ptr → hand_row.Denot → Fml
-owned_at p x = fsep (fex (p ≡ place x.share.maybe.id) (λ _. ftrue)) (owned x)
+owned_at p x = fsep (address_of p x) (owned x)
 
 -- the same where there is such a handle
 abbrev pub owned_if : Option hand_row.Denot → Fml

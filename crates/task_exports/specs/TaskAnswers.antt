@@ -1,6 +1,6 @@
 -- What the exports of the Task answer, by the number of the answer: what the party did, the oldest first, and where it stands then.
 use Rattle.std.specs.declared.alloc.Global.{Global}
-use Rattle.std.specs.Prelude.{◌≡◌, ◌||◌, nat_eq, ℕ, Bool, true, false, List, [], ◌∷◌, ◌++◌, Option, Some, None, is_some}
+use Rattle.std.specs.Prelude.{◌≡◌, ◌-◌, ◌^◌, ◌||◌, nat_eq, ℕ, Bool, true, false, List, [], ◌∷◌, ◌++◌, Option, Some, None, is_some}
 use Rattle.task_core.specs.Word.{State, is_open}
 use Rattle.task_core.specs.declared.acts.Act.TheVariants.{CancelOver, CancelBusy, CancelIdle, GiveUpOutput, DropOutput, DetachOrphan}
 use Rattle.task_core.specs.declared.acts.Act.TheVariants.{DetachLast, Detach, EndCall, HandOver, BeginNotify, MissNotify}
@@ -14,6 +14,7 @@ use Rattle.task_laws.specs.declared.positions.Position.{Position}
 use Rattle.task_laws.specs.declared.positions.Position.TheVariants.{AwaiterInHand, Emptier, Looking, OutputCloser}
 use Rattle.task_laws.specs.declared.positions.Position.TheVariants.{Registered, Registrar, Releaser, TookBack, TookOutput, UnusedClone}
 use Rattle.task_laws.specs.Table.{after_storing, notifies}
+use Rattle.task_steps.specs.Attempts.{HasMissed}
 use Rattle.task_steps.specs.declared.table.Deed.{Deed}
 use Rattle.task_steps.specs.declared.table.Slot.{Slot}
 use Rattle.task_steps.specs.Deeds.{row, act}
@@ -91,7 +92,7 @@ module _ {F T A : Type 0} where
 
   -- a cancel by a Task that has begun n polls
   pub data Cancels (n : ℕ) (p q : Party F T A) : ℕ → Type 0 where
-    cancel_missed : Cancels n p q 0
+    cancel_missed : HasMissed (2 ^ 64 - 1) q.seat.me → Cancels n p q 0
     was_over : (w : State) → Fits CancelOver w → Did (row CancelOver w ∷ act EndCall ∷ []) (as_task n) p q → Cancels n p q 12
     closes : (w : State) (notice : List Deed) → Fits CancelBusy w → PassesBy w.awaiter notice
         → Did (row CancelBusy w ∷ notice ++ act EndCall ∷ []) (as_task n) p q → Cancels n p q 12
@@ -138,13 +139,13 @@ module _ {F T A : Type 0} where
 
   -- the first look: or the awaiter is to be registered
   pub data Polls (i : ℕ) (p q : Party F T A) : ℕ → Type 0 where
-    poll_missed : Polls i p q 0
+    poll_missed : HasMissed (2 ^ 64 - 1) q.seat.me → Polls i p q 0
     answers : (r : ℕ) → Answers i (λ w. row ClaimOutput w ∷ []) p q r → Polls i p q r
     registers : (w : State) → has_output w ≡ false → has_ended w ≡ false → Did (row Look w ∷ []) (Registrar i) p q → Polls i p q 19
 
   -- the look of a poll that has registered: or the poll waits
   pub data LooksOn (i : ℕ) (p q : Party F T A) : ℕ → Type 0 where
-    look_missed : LooksOn i p q 0
+    look_missed : HasMissed (2 ^ 64 - 1) q.seat.me → LooksOn i p q 0
     answers_now : (r : ℕ) → Answers i (λ w. row Look w ∷ row ClaimOutput w ∷ []) p q r → LooksOn i p q r
     waits : (w : State) → has_to_wait w ≡ true → Did (row Look w ∷ act EndCall ∷ []) (as_task i) p q → LooksOn i p q 18
 
@@ -154,7 +155,7 @@ module _ {F T A : Type 0} where
 
   -- the place of the awaiter is taken for the clone, which the cell has in it; or a notifier is there
   pub data Stores (i : ℕ) (p q : Party F T A) : ℕ → Type 0 where
-    store_missed : Stores i p q 0
+    store_missed : HasMissed (2 ^ 64 - 1) q.seat.me → Stores i p q 0
     stores : (w : State) (old : Option ℕ) (clone : A) (r : ℕ) → w.notifying ≡ false → IsStored old r
         → DidWith (act CloneAwaiter ∷ row BeginRegister w ∷ act StoreAwaiter ∷ []) (after_storing i old) (awaiter_first (Some clone) []) p q
         → Stores i p q r
@@ -163,7 +164,7 @@ module _ {F T A : Type 0} where
 
   -- the clone was put in, and the place is given back; or a notifier came meanwhile
   pub data EndsStore (i : ℕ) (stood : Bool) (p q : Party F T A) : ℕ → Type 0 where
-    end_missed : EndsStore i stood p q 0
+    end_missed : HasMissed (2 ^ 64 - 1) q.seat.me → EndsStore i stood p q 0
     looks : (v : State) (r : ℕ) → v.notifying ≡ false → LooksAfter i (dropped_if stood ++ row EndRegister v ∷ []) p q r
         → EndsStore i stood p q r
     has_to_take_back : (clone : A) → DidWith (dropped_if stood ++ act TakeAwaiter ∷ []) (TookBack i) (awaiter_first (Some clone) []) p q
@@ -182,7 +183,7 @@ Becomes x y = IsLive y × (cell_in y ≡ cell_in x)
 -- a detach: 1, the party has ended; 9, it was the last, and has the place of the awaiter, to be emptied; 5, the output is to be dropped;
 -- 10, the hand is that of the Runnable which was handed over, by a party that has ended
 pub data Detaches (x y : Hand) : Option CellParty → ℕ → Type 0 where
-  detach_missed : Detaches x y None 0
+  detach_missed : HasMissed (2 ^ 64 - 1) y.party.seat.me → Detaches x y None 0
   is_shared : (w : State) → Fits Detach w → IsGone y → Did (row Detach w ∷ act EndCall ∷ []) as_ended x.party y.party → Detaches x y None 1
   is_last : (w : State) (z : _) → Fits DetachLast w → Becomes x y
       → DidWith (row DetachLast w ∷ []) (Emptier None Nothing) (awaiter_first z []) x.party y.party → Detaches x y None 9

@@ -9,7 +9,7 @@ use std::marker::Model;
 /// A handle by its bits, which are the address of its block: the caller keeps them while an export has the handle, and has it again by what that leaves.
 #[repr(C)]
 pub struct Bits {
-    at: *const u64,
+    pub(crate) at: *const u64,
     pub ghost hand: { Hand },
 }
 
@@ -31,7 +31,7 @@ impl Model for Left {
     ghost also_owns = { λ h. owned h.hand };
 }
 
-/// A second handle of the same cell, which has the same bits, or none. It has no bytes.
+/// A second handle of the same cell, or the record of the call, which has the same bits; or none. It has no bytes.
 #[repr(C)]
 pub struct Brought {
     pub ghost hand: { Option Hand },
@@ -54,6 +54,14 @@ pub struct Answer {
 #[repr(C)]
 pub struct Brings {
     pub number: u32,
+    pub brought: Brought,
+}
+
+/// What an export answers, leaves and brings by which a call may end that hands its own share on: the record of the call then, which the caller forgets.
+#[repr(C)]
+pub struct Ends {
+    pub number: u32,
+    pub left: Left,
     pub brought: Brought,
 }
 
@@ -96,4 +104,14 @@ pub fn bring_none() -> Brought
     ensures { result.hand ≡ None }
 {
     Brought {}
+}
+
+/// What there is of a second handle beside its bits.
+pub fn bring_if(hand: Option<Hand>) -> Brought
+    ensures { result.hand ≡ hand }
+{
+    match hand {
+        Some(hand) => bring(hand),
+        None => bring_none(),
+    }
 }

@@ -2,7 +2,7 @@
 ghost use Rattle.std.specs.Prelude.{◌≡◌, ℕ, [], ◌∷◌, Option, None, is_some, true, false, if◌then◌else◌};
 ghost use Rattle.task_cell.specs.Calls.{Did, Stands, StandsWith};
 ghost use Rattle.task_exports.specs.Answers.{BeginsDue, Finishes, GivesBack, GivesUpNext, GoesOn, IsFull, empties};
-ghost use Rattle.task_exports.specs.Hands.{IsGone, IsLive};
+ghost use Rattle.task_exports.specs.Hands.{IsGone, IsLive, SameBits};
 ghost use Rattle.task_laws.specs.Table.{notifies};
 ghost use Rattle.task_laws.specs.declared.positions.Answer.{Answer};
 ghost use Rattle.task_laws.specs.declared.positions.Answer.TheVariants.{Ran};
@@ -22,7 +22,8 @@ use crate::handle::{Handle, put, take};
 pub(crate) fn give_back(hand: Hand) -> (Hand, u32)
     requires hand { IsLive hand }
     requires party { (answer : Answer) × Stands (GivingUp None answer) hand.party }
-    ensures { GivesBack [] hand result.0 result.1 }
+    ensures bits { SameBits hand result.0 }
+    ensures path { GivesBack [] hand result.0 result.1 }
 {
     let Hand { share, mut party } = hand;
     let share = share.share();
@@ -39,7 +40,7 @@ pub(crate) fn give_back(hand: Hand) -> (Hand, u32)
 fn begin_due(hand: Hand, due: bool) -> (Hand, bool)
     requires hand { IsLive hand }
     requires party { (way : NotifyingCall) × Stands (notifies due way) hand.party }
-    ensures hand { IsLive result.0 }
+    ensures hand { IsLive result.0 × SameBits hand result.0 }
     ensures path { (way : NotifyingCall) → Stands (notifies due way) hand.party → BeginsDue way due hand result.0 result.1 }
 {
     if due {
@@ -56,7 +57,8 @@ fn begin_due(hand: Hand, due: bool) -> (Hand, bool)
 pub(crate) fn go_on(hand: Hand, due: bool) -> (Hand, u32)
     requires hand { IsLive hand }
     requires party { (way : NotifyingCall) × GivesUpNext way × Stands (notifies due way) hand.party }
-    ensures { (way : NotifyingCall) → GivesUpNext way → Stands (notifies due way) hand.party → GoesOn way due [] hand result.0 result.1 }
+    ensures bits { SameBits hand result.0 }
+    ensures path { (way : NotifyingCall) → GivesUpNext way → Stands (notifies due way) hand.party → GoesOn way due [] hand result.0 result.1 }
 {
     let (hand, taken) = begin_due(hand, due);
     if taken { (hand, TAKE) } else { give_back(hand) }
@@ -66,7 +68,8 @@ pub(crate) fn go_on(hand: Hand, due: bool) -> (Hand, u32)
 fn finish(hand: Hand) -> (Hand, u32)
     requires hand { IsLive hand }
     requires party { (awaiter : Option ℕ) × (y : _) × StandsWith (Releaser awaiter OfRun) (awaiter_first y []) hand.party × Waits awaiter y }
-    ensures { (awaiter : Option ℕ) × Finishes hand result.0 awaiter result.1 }
+    ensures bits { SameBits hand result.0 }
+    ensures path { (awaiter : Option ℕ) × Finishes hand result.0 awaiter result.1 }
 {
     let Hand { share, mut party } = hand;
     let share = share.share();
@@ -93,23 +96,12 @@ fn finish(hand: Hand) -> (Hand, u32)
     }
 }
 
-/// Goes on with a run by the handle that lies at `h`, as `async_task_finish`.
-pub fn finish_at(h: &mut Handle) -> u32
-    requires handle { IsFull h.old }
-    requires party { (awaiter : Option ℕ) × (y : _) × StandsWith (Releaser awaiter OfRun) (awaiter_first y []) h.old.hand.party × Waits awaiter y }
-    ensures there { h.new.there ≡ true }
-    ensures path { (awaiter : Option ℕ) × Finishes h.old.hand h.new.hand awaiter result }
-{
-    let (hand, answer) = finish(take(h));
-    put(h, hand);
-    answer
-}
-
 /// Goes on with a run whose awaiter the caller has moved out of its place: 1 or 8, the call has ended; 9 or 15, it was the last handle; in 8 and 15 the awaiter is to be woken.
 #[unsafe(no_mangle)]
 pub extern "C" fn async_task_finish(h: Bits) -> bits::Answer
     requires handle { IsLive h.hand }
     requires party { (awaiter : Option ℕ) × (y : _) × StandsWith (Releaser awaiter OfRun) (awaiter_first y []) h.hand.party × Waits awaiter y }
+    ensures bits { SameBits h.hand result.left.hand }
     ensures path { (awaiter : Option ℕ) × Finishes h.hand result.left.hand awaiter result.number }
 {
     let (hand, number) = finish(open(h));

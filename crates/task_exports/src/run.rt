@@ -1,11 +1,11 @@
 //! The steps of a run.
-ghost use Rattle.std.specs.Prelude.{◌≡◌, ℕ, [], ◌∷◌, Option, true};
+ghost use Rattle.std.specs.Prelude.{◌≡◌, [], ◌∷◌, IfSome, nat_eq, true, false};
 ghost use Rattle.task_core.specs.Word.{State};
 ghost use Rattle.task_core.specs.declared.acts.Act.TheVariants.{DropOutput, EndClosed, Unschedule};
 ghost use Rattle.task_cell.specs.Calls.{Stands, StandsWith};
 ghost use Rattle.task_exports.specs.Answers.{Completed, GoesOn, IsFull, Pends, Starts};
-ghost use Rattle.task_exports.specs.Hands.{IsLive};
-ghost use Rattle.task_exports.specs.Parties.{CellParty, party_in};
+ghost use Rattle.task_exports.specs.Hands.{IsLive, IsRecordOf, SameBits};
+ghost use Rattle.task_exports.specs.Parties.{party_in};
 ghost use Rattle.task_laws.specs.declared.positions.NotifyingCall.TheVariants.{OfRun};
 ghost use Rattle.task_laws.specs.declared.positions.Position.TheVariants.{FutureGone, OutputInHand, PendingFutureDropped, Polling};
 ghost use Rattle.task_laws.specs.declared.positions.WithoutPoll.TheVariants.{ClosedRun};
@@ -18,9 +18,9 @@ ghost use Rattle.task_exports.specs.Unknown.{unknown};
 use crate::answers::{
     DROP_FUTURE, DROP_OUTPUT, DROP_OUTPUT_DUE, MISSED, OVER, POLL, SCHEDULE, SCHEDULE_WOKEN,
 };
-use crate::bits::{Answer, Bits, close, open};
+use crate::bits::{Answer, Bits, Ends, bring_if, close, open};
 use crate::ends::go_on;
-use crate::hand::{Elsewhere, Hand, Record};
+use crate::hand::{Elsewhere, Hand};
 use crate::handle::{Handle, put, take};
 use crate::schedule::hand_on;
 use task_cell::Kept;
@@ -30,7 +30,8 @@ use task_steps::run::{PendingEnd, keeps_output};
 fn start(hand: Hand) -> (Hand, u32)
     requires hand { IsLive hand }
     requires party { Stands as_runnable hand.party }
-    ensures { Starts hand result.0 result.1 }
+    ensures bits { SameBits hand result.0 }
+    ensures path { Starts hand result.0 result.1 }
 {
     let Hand { share, mut party } = hand;
     let share = share.share();
@@ -44,23 +45,12 @@ fn start(hand: Hand) -> (Hand, u32)
     }
 }
 
-/// Starts a run by the Runnable that lies at `h`, as `async_task_start`.
-pub fn start_at(h: &mut Handle) -> u32
-    requires handle { IsFull h.old }
-    requires party { Stands as_runnable h.old.hand.party }
-    ensures there { h.new.there ≡ true }
-    ensures path { Starts h.old.hand h.new.hand result }
-{
-    let (hand, answer) = start(take(h));
-    put(h, hand);
-    answer
-}
-
 /// Starts a run by a Runnable: 3, the future is to be polled; 4, the task was closed, and its future is to be dropped; 0, each try has missed.
 #[unsafe(no_mangle)]
 pub extern "C" fn async_task_start(h: Bits) -> Answer
     requires handle { IsLive h.hand }
     requires party { Stands as_runnable h.hand.party }
+    ensures bits { SameBits h.hand result.left.hand }
     ensures path { Starts h.hand result.left.hand result.number }
 {
     let (hand, number) = start(open(h));
@@ -97,7 +87,8 @@ pub extern "C" fn async_task_run_closed(h: &mut Handle) -> u32
 fn complete(hand: Hand) -> (Hand, u32)
     requires hand { IsLive hand }
     requires party { (y : _) × StandsWith Polling (work_first y []) hand.party }
-    ensures { Completed hand result.0 result.1 }
+    ensures bits { SameBits hand result.0 }
+    ensures path { Completed hand result.0 result.1 }
 {
     let Hand { share, mut party } = hand;
     let share = share.share();
@@ -123,23 +114,12 @@ fn complete(hand: Hand) -> (Hand, u32)
     }
 }
 
-/// Ends a run by the handle that lies at `h`, as `async_task_complete`.
-pub fn complete_at(h: &mut Handle) -> u32
-    requires handle { IsFull h.old }
-    requires party { (y : _) × StandsWith Polling (work_first y []) h.old.hand.party }
-    ensures there { h.new.there ≡ true }
-    ensures path { Completed h.old.hand h.new.hand result }
-{
-    let (hand, answer) = complete(take(h));
-    put(h, hand);
-    answer
-}
-
 /// Ends a run whose poll was ready, once the caller has dropped the future and stored the output: 5 and 6, nobody will claim the output, and it is to be dropped (in 6 an awaiter is due); 7, the awaiter is to be moved out of its place; 1, the call has ended; 9, it was the last handle; 0, each try has missed.
 #[unsafe(no_mangle)]
 pub extern "C" fn async_task_complete(h: Bits) -> Answer
     requires handle { IsLive h.hand }
     requires party { (y : _) × StandsWith Polling (work_first y []) h.hand.party }
+    ensures bits { SameBits h.hand result.left.hand }
     ensures path { Completed h.hand result.left.hand result.number }
 {
     let (hand, number) = complete(open(h));
@@ -173,10 +153,12 @@ pub extern "C" fn async_task_output_dropped(h: &mut Handle, due: bool) -> u32
 }
 
 // What the handle's place has then, the answer, and the record of a party that has handed its share on.
-fn pend(hand: Hand) -> (Hand, u32, Option<Record>)
+fn pend(hand: Hand) -> (Hand, u32, Option<Hand>)
     requires hand { IsLive hand }
     requires party { (y : _) × StandsWith Polling (work_first y []) hand.party × IsFuture unknown y }
-    ensures { Pends hand result.0 (party_in result.2) result.1 }
+    ensures bits { nat_eq result.1 0 ≡ false → SameBits hand result.0 }
+    ensures record { IfSome result.2 (λ k. IsRecordOf hand k) }
+    ensures path { Pends hand result.0 (party_in result.2) result.1 }
 {
     let Hand { share, mut party } = hand;
     let share = share.share();
@@ -211,28 +193,23 @@ fn pend(hand: Hand) -> (Hand, u32, Option<Record>)
     }
 }
 
-/// Ends a run by the handle that lies at `h`, as `async_task_pending`: the answer, and the record of a party that has handed its share on.
-pub fn pending_at(h: &mut Handle) -> (u32, Option<Record>)
-    requires handle { IsFull h.old }
-    requires party { (y : _) × StandsWith Polling (work_first y []) h.old.hand.party × IsFuture unknown y }
-    ensures there { h.new.there ≡ true }
-    ensures path { Pends h.old.hand h.new.hand (party_in result.1) result.0 }
-{
-    let (hand, answer, ended) = pend(take(h));
-    put(h, hand);
-    (answer, ended)
-}
-
 /// Ends a run whose poll was pending: 4, the task was closed meanwhile, and its future is to be dropped; 11, it was woken meanwhile, and the handle is its Runnable, which is to be scheduled; 10, nobody else has a handle, and the handle is its Runnable, which is to be scheduled; 1, the call has ended; 0, each try has missed.
 #[unsafe(no_mangle)]
-pub extern "C" fn async_task_pending(h: Bits) -> Answer
+pub extern "C" fn async_task_pending(h: Bits) -> Ends
     requires handle { IsLive h.hand }
     requires party { (y : _) × StandsWith Polling (work_first y []) h.hand.party × IsFuture unknown y }
-    ensures path { (ended : Option CellParty) × Pends h.hand result.left.hand ended result.number }
+    ensures bits { nat_eq result.number 0 ≡ false → SameBits h.hand result.left.hand }
+    ensures record { IfSome result.brought.hand (λ k. IsRecordOf h.hand k) }
+    ensures path { Pends h.hand result.left.hand (party_in result.brought.hand) result.number }
 {
-    let (hand, number, _) = pend(open(h));
+    let (hand, number, ended) = pend(open(h));
     let left = close(hand);
-    Answer { number, left }
+    let brought = bring_if(ended);
+    Ends {
+        number,
+        left,
+        brought,
+    }
 }
 
 fn end_closed(hand: Hand) -> (Hand, u32)

@@ -14,10 +14,12 @@ ghost use Rattle.task_steps.specs.declared.table.Slot.{Slot};
 
 use crate::answers::{DROP_OUTPUT, LAST, OVER};
 use crate::caller::Caller;
-use crate::calls::ends::{empty, over};
-use crate::detach::{detach_at, detach_dropped_at};
+use crate::calls::crossing::{end, lend};
+use crate::calls::ends::{empty, over, record};
+use crate::detach::{async_task_detach, async_task_detach_dropped};
 use crate::hand::Record;
 use crate::handle::Handle;
+use crate::waker::async_task_drop_waker;
 use task_core::Wake;
 
 /// Drops the waker at `h`: the record of the call.
@@ -26,11 +28,12 @@ pub fn drop_waker<A: Wake, C: Caller<A>>(h: &mut Handle, caller: &mut C) -> Opti
     requires party { Stands as_waker h.old.hand.party }
     ensures path { IfSome result (λ ended. (path : List Deed) × WakerDropPath (C.scheduled false) path × Did path as_ended h.old.hand.party ended.party) }
 {
-    let (answer, ended) = crate::waker::drop_waker(h);
+    let (bits, address) = lend(h);
+    let (answer, ended) = end(h, address, async_task_drop_waker(bits));
     match ended {
         Some(ended) => {
             caller.schedule(h, false);
-            Some(ended)
+            Some(record(ended))
         }
         None => match answer {
             OVER => Some(over(h)),
@@ -47,7 +50,7 @@ fn end_unclaimed<A: Wake, C: Caller<A>>(h: &mut Handle, caller: &mut C) -> Optio
     requires closed { saw_closed (deeds h.old.hand.party) ≡ true }
     ensures { IfSome result (λ ended. (path : List Deed) × UnclaimedPath path × Did path as_ended h.old.hand.party ended.party) }
 {
-    match detach_dropped_at(h) {
+    match by_bits!(h, async_task_detach_dropped) {
         OVER => Some(over(h)),
         LAST => empty(h, false, caller),
         _ => None,
@@ -73,11 +76,12 @@ pub fn detach<A: Wake, C: Caller<A>>(h: &mut Handle, caller: &mut C) -> Option<R
     requires party { (n : ℕ) × Stands (as_task n) h.old.hand.party }
     ensures { IfSome result (λ ended. (path : List Deed) × DetachPath (C.scheduled false) path × Done C.did path × Did path as_ended h.old.hand.party ended.party) }
 {
-    let (answer, ended) = detach_at(h);
+    let (bits, address) = lend(h);
+    let (answer, ended) = end(h, address, async_task_detach(bits));
     match ended {
         Some(ended) => {
             caller.schedule(h, false);
-            Some(ended)
+            Some(record(ended))
         }
         None => match answer {
             OVER => Some(over(h)),

@@ -15,16 +15,25 @@ use crate::hand::{Hand, Record};
 use crate::handle::{Handle, take};
 use task_core::Wake;
 
-// The record of a call that has ended: the caller forgets it.
+// The record of a call that has ended, which the caller forgets.
+pub(crate) fn record(hand: Hand) -> Record
+    requires gone { IsGone hand }
+    requires party { Stands as_ended hand.party }
+    ensures { result.party ≡ hand.party }
+{
+    let Hand { share, party } = hand;
+    share.none();
+    Record { party }
+}
+
+// The record of a call whose handle is gone.
 pub(crate) fn over(h: &mut Handle) -> Record
     requires there { h.old.there ≡ true }
     requires gone { IsGone h.old.hand }
     requires party { Stands as_ended h.old.hand.party }
     ensures { result.party ≡ h.old.hand.party }
 {
-    let Hand { share, party } = take(h);
-    share.none();
-    Record { party }
+    record(take(h))
 }
 
 // Drops an awaiter that is left, empties the places by the last handle, and frees the memory of a cell that has ended.

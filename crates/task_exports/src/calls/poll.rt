@@ -1,5 +1,5 @@
 //! A poll of the Task, and the question whether a task is over.
-ghost use Rattle.std.specs.Prelude.{◌≡◌, ◌+◌, ◌++◌, ◌∷◌, [], ℕ, Bool, List, Ok, Some, IfSome, not, true};
+ghost use Rattle.std.specs.Prelude.{◌≡◌, ◌+◌, ◌++◌, ◌∷◌, [], ℕ, Bool, List, Ok, Some, IfSome, nat_eq, not, true};
 ghost use Rattle.task_cell.specs.Calls.{Did, DidWith, Stands, StandsWith};
 ghost use Rattle.task_cell.specs.PollPaths.{AnswerPath, PollPath, RegisterPath};
 ghost use Rattle.task_core.specs.Word.{State, is_open};
@@ -19,12 +19,13 @@ ghost use Rattle.task_steps.specs.declared.table.Slot.{Slot};
 use crate::answers::{TAKE, WAKE_FIRST};
 use crate::caller::Caller;
 use crate::handle::Handle;
-use crate::poll::{
-    ClaimDropped, ClaimTaken, ClaimWoken, Finished, OutputTaken, Poll, PollDropped, PollRefused,
-    PollTaken, PollWoken,
+use crate::poll_exports::{
+    async_task_claim_dropped, async_task_claim_taken, async_task_claim_woken,
+    async_task_clone_dropped, async_task_clone_refused, async_task_clone_woken,
+    async_task_is_finished, async_task_output_taken, async_task_poll, async_task_poll_dropped,
+    async_task_poll_taken, async_task_poll_woken, async_task_register, async_task_registered,
+    async_task_taken_back,
 };
-use crate::register::{CloneDropped, CloneWoken, Register, Registered, TakenBack};
-use crate::step::make_at;
 use crate::task_answers::{
     CLONE, CLOSED, OUTPUT, PENDING, REPLACE, STORE, TAKE_BACK, TAKE_CLAIMED, WAKE_CALLER,
 };
@@ -41,11 +42,11 @@ fn shut_other<A: Wake>(h: &mut Handle, taken: Option<A>, awaiter: &A) -> Option<
         Some(taken) => {
             if taken.will_wake(awaiter) {
                 drop(taken);
-                make_at(PollDropped, h);
+                by_bits!(h, async_task_poll_dropped);
                 Some(())
             } else {
                 taken.wake();
-                make_at(PollWoken, h);
+                by_bits!(h, async_task_poll_woken);
                 Some(())
             }
         }
@@ -61,7 +62,7 @@ fn shut<A: Wake, C: Caller<A>>(h: &mut Handle, awaiter: &A, caller: &mut C) -> O
     ensures path { (i : ℕ) → AtPlace (OfPoll i) [] h.old.hand.party → IfSome result (λ _. (k : List Deed) × TakesOut A.woken A.compared awaiter.now k × Did (k ++ act EndCall ∷ []) (as_task i) h.old.hand.party h.new.hand.party) }
 {
     let taken = caller.take_awaiter();
-    match make_at(PollTaken, h) {
+    match by_bits!(h, async_task_poll_taken) {
         CLOSED => Some(()),
         WAKE_FIRST => shut_other(h, taken, awaiter),
         _ => None,
@@ -79,11 +80,11 @@ fn claim_other<A: Wake>(h: &mut Handle, taken: Option<A>, awaiter: &A) -> Option
         Some(taken) => {
             if taken.will_wake(awaiter) {
                 drop(taken);
-                make_at(ClaimDropped, h);
+                by_bits!(h, async_task_claim_dropped);
                 Some(())
             } else {
                 taken.wake();
-                make_at(ClaimWoken, h);
+                by_bits!(h, async_task_claim_woken);
                 Some(())
             }
         }
@@ -99,7 +100,7 @@ fn claim<A: Wake, C: Caller<A>>(h: &mut Handle, awaiter: &A, caller: &mut C) -> 
     ensures path { (i : ℕ) (z : Slot _ _) → ClaimAtPlace i z h.old.hand.party → IfSome result (λ _. (k : List Deed) × TakesOut A.woken A.compared awaiter.now k × DidWith k (TookOutput i) (work_first z []) h.old.hand.party h.new.hand.party) }
 {
     let taken = caller.take_awaiter();
-    match make_at(ClaimTaken, h) {
+    match by_bits!(h, async_task_claim_taken) {
         OUTPUT => Some(()),
         WAKE_FIRST => claim_other(h, taken, awaiter),
         _ => None,
@@ -115,7 +116,7 @@ fn hand_out<A: Wake, C: Caller<A>>(h: &mut Handle, caller: &mut C) -> C::Output
     ensures path { (i : ℕ) (z : Slot _ _) → HasOutput i z h.old.hand.party → Did (act HandOutOutput ∷ act EndCall ∷ []) (as_task i) h.old.hand.party h.new.hand.party }
 {
     let output = caller.take_output();
-    make_at(OutputTaken, h);
+    by_bits!(h, async_task_output_taken);
     output
 }
 
@@ -154,9 +155,9 @@ fn take_back<A: Wake, C: Caller<A>>(h: &mut Handle, caller: &mut C) -> Option<u3
 {
     match caller.take_back() {
         Some(clone) => {
-            make_at(TakenBack, h);
+            by_bits!(h, async_task_taken_back);
             clone.wake();
-            Some(make_at(CloneWoken, h))
+            Some(by_bits!(h, async_task_clone_woken))
         }
         None => None,
     }
@@ -177,20 +178,15 @@ fn looked(answer: u32) -> Option<u32>
 }
 
 // Puts the clone into the awaiter's place, drops an older one, and looks again: what that answers.
-fn store<A: Wake, C: Caller<A>>(
-    h: &mut Handle,
-    stood: bool,
-    clone: A,
-    caller: &mut C,
-) -> Option<u32>
+fn store<A: Wake, C: Caller<A>>(h: &mut Handle, old: u32, clone: A, caller: &mut C) -> Option<u32>
     requires handle { IsFull h.old }
-    requires party { (i : ℕ) × HasStored i stood h.old.hand.party }
+    requires party { (i : ℕ) × HasStored i (nat_eq old 1) h.old.hand.party }
     ensures handle { IfSome result (λ _. Keeps h.old h.new) }
     ensures fact { C.did StoreAwaiter }
-    ensures path { (i : ℕ) → HasStored i stood h.old.hand.party → IfSome result (λ answer. (path : List Deed) × EndsRegister A.woken clone stood path × LooksAfter i path h.old.hand.party h.new.hand.party answer) }
+    ensures path { (i : ℕ) → HasStored i (nat_eq old 1) h.old.hand.party → IfSome result (λ answer. (path : List Deed) × EndsRegister A.woken clone (nat_eq old 1) path × LooksAfter i path h.old.hand.party h.new.hand.party answer) }
 {
     caller.store_awaiter(clone);
-    let answer = make_at(Registered { stood }, h);
+    let answer = by_bits!(h, async_task_registered, old);
     match answer {
         TAKE_BACK => take_back(h, caller),
         _ => looked(answer),
@@ -210,13 +206,13 @@ fn register<A: Wake, C: Caller<A>>(
     ensures handle { IfSome result (λ _. Keeps h.old h.new) }
     ensures path { (i : ℕ) → Stands (Registrar i) h.old.hand.party → IfSome result (λ answer. (path : List Deed) × RegisterPath A.cloned A.woken A.woken_by_ref awaiter.now path × Done C.did path × LooksAfter i path h.old.hand.party h.new.hand.party answer) }
 {
-    match make_at(Register, h) {
-        STORE => store(h, false, clone, caller),
-        REPLACE => store(h, true, clone, caller),
+    match by_bits!(h, async_task_register) {
+        STORE => store(h, 0, clone, caller),
+        REPLACE => store(h, 1, clone, caller),
         WAKE_CALLER => {
             awaiter.wake_by_ref();
             drop(clone);
-            Some(make_at(CloneDropped, h))
+            Some(by_bits!(h, async_task_clone_dropped))
         }
         _ => None,
     }
@@ -259,7 +255,7 @@ fn go_on<A: Wake, C: Caller<A>>(
             None => None,
         },
         Err(_) => {
-            make_at(PollRefused, h);
+            by_bits!(h, async_task_clone_refused);
             Some(TaskPoll::Refused)
         }
     }
@@ -276,7 +272,7 @@ pub fn poll<A: Wake, C: Caller<A>>(
     ensures handle { IfSome result (λ _. Keeps h.old h.new) }
     ensures path { (n : ℕ) → Stands (as_task n) h.old.hand.party → IfSome result (λ told. (path : List Deed) × PollPath A.cloned A.woken A.woken_by_ref A.compared awaiter.now path told × Done C.did path × Did path (as_task (n + 1)) h.old.hand.party h.new.hand.party) }
 {
-    let answer = make_at(Poll, h);
+    let answer = by_bits!(h, async_task_poll);
     match answer {
         CLONE => go_on(h, awaiter, caller),
         _ => match end(h, answer, awaiter, caller) {
@@ -293,5 +289,5 @@ pub fn is_finished(h: &mut Handle) -> bool
     ensures handle { Keeps h.old h.new }
     ensures path { (n : ℕ) → Stands (as_task n) h.old.hand.party → (w : State) × (result ≡ not (is_open w)) × Did (row LookFinished w ∷ act EndCall ∷ []) (as_task n) h.old.hand.party h.new.hand.party }
 {
-    make_at(Finished, h) == 1
+    by_bits!(h, async_task_is_finished) == 1
 }

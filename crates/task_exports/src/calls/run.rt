@@ -18,17 +18,18 @@ ghost use Rattle.task_steps.specs.declared.table.Deed.{Deed};
 ghost use Rattle.task_exports.specs.Unknown.{unknown};
 
 use crate::answers::{
-    DROP_FUTURE, DROP_OUTPUT, DROP_OUTPUT_DUE, LAST, LAST_WAKE, OVER, POLL, SCHEDULE_WOKEN, TAKE,
-    WAKE,
+    DROP_FUTURE, DROP_OUTPUT, DROP_OUTPUT_DUE, LAST, LAST_WAKE, MISSED, OVER, POLL, SCHEDULE_WOKEN,
+    TAKE, WAKE,
 };
 use crate::caller::Caller;
-use crate::calls::ends::{empty, over, wake_last};
-use crate::ends::finish_at;
+use crate::calls::crossing::{end, lend, lose};
+use crate::calls::ends::{empty, over, record, wake_last};
+use crate::ends::async_task_finish;
 use crate::hand::Record;
 use crate::handle::Handle;
 use crate::run::{
-    async_task_output_dropped, async_task_pending_closed, async_task_run_closed, complete_at,
-    pending_at, start_at,
+    async_task_complete, async_task_output_dropped, async_task_pending, async_task_pending_closed,
+    async_task_run_closed, async_task_start,
 };
 use task_core::{Poll, Wake};
 
@@ -39,7 +40,7 @@ fn end_taken<A: Wake, C: Caller<A>>(h: &mut Handle, caller: &mut C) -> Option<Re
     ensures { IfSome result (λ ended. (path : List Deed) × EndsTaken ((a : A) × (r : A.Record) × A.woken a r) path × Did path as_ended h.old.hand.party ended.party) }
 {
     let taken = caller.take_awaiter();
-    match finish_at(h) {
+    match by_bits!(h, async_task_finish) {
         OVER => Some(over(h)),
         LAST => empty(h, false, caller),
         WAKE => wake_last(over(h), taken),
@@ -109,7 +110,7 @@ fn end_ready<A: Wake, C: Caller<A>>(
 {
     caller.drop_future();
     caller.store_output(output);
-    match complete_at(h) {
+    match by_bits!(h, async_task_complete) {
         DROP_OUTPUT => end_unclaimed(h, false, caller),
         DROP_OUTPUT_DUE => end_unclaimed(h, true, caller),
         OVER => leave(h, OVER, caller),
@@ -136,12 +137,18 @@ fn end_pending<A: Wake, C: Caller<A>>(h: &mut Handle, caller: &mut C) -> Option<
     requires party { (y : _) × StandsWith Polling (work_first y []) h.old.hand.party × IsFuture unknown y }
     ensures { IfSome result (λ ended. (path : List Deed) × PendingPath ((a : A) × (r : A.Record) × A.woken a r) C.scheduled ended.0 path × Done C.did path × Did path as_ended h.old.hand.party ended.1.party) }
 {
-    let (answer, ended) = pending_at(h);
+    let (bits, address) = lend(h);
+    let answer = async_task_pending(bits);
+    if answer.number == MISSED {
+        lose(answer);
+        return None;
+    }
+    let (answer, ended) = end(h, address, answer);
     match ended {
         Some(ended) => {
             let woken = answer == SCHEDULE_WOKEN;
             caller.schedule(h, woken);
-            Some((woken, ended))
+            Some((woken, record(ended)))
         }
         None => match answer {
             OVER => Some((false, over(h))),
@@ -157,7 +164,7 @@ pub fn run<A: Wake, C: Caller<A>>(h: &mut Handle, caller: &mut C) -> Option<(boo
     requires party { Stands as_runnable h.old.hand.party }
     ensures { IfSome result (λ ended. (path : List Deed) × RunPath C.polled ((a : A) × (r : A.Record) × A.woken a r) C.scheduled ended.0 path × Done C.did path × Did path as_ended h.old.hand.party ended.1.party) }
 {
-    match start_at(h) {
+    match by_bits!(h, async_task_start) {
         DROP_FUTURE => stays(end_closed(h, caller)),
         POLL => match caller.poll(h) {
             Poll::Ready(output) => stays(end_ready(h, output, caller)),

@@ -11,12 +11,15 @@ ghost use Rattle.task_steps.specs.Standing.{as_ended, as_runnable, as_waker};
 ghost use Rattle.task_steps.specs.declared.table.Deed.{Deed};
 
 use crate::answers::{DONE, SCHEDULE};
+use crate::bits::Brings;
 use crate::caller::Caller;
+use crate::calls::crossing::fetch;
 use crate::calls::detach::drop_waker;
+use crate::calls::ends::record;
+use crate::calls::lending::{gain_at, wake_at};
 use crate::hand::Record;
 use crate::handle::Handle;
-use crate::schedule::schedule as hand_on;
-use crate::waker::{gain_at, wake_at};
+use crate::schedule::async_task_schedule;
 use task_core::Wake;
 
 /// Wakes the task by the handle at `h`, which is lent for it. A Runnable that is to be scheduled lies at `out` meanwhile; where there is none, the record of the call lies there then.
@@ -78,7 +81,8 @@ pub fn schedule<A: Wake, C: Caller<A>>(h: &mut Handle, caller: &mut C) -> Record
     ensures fact { C.scheduled false }
     ensures path { Did (act HandOver ∷ act EndCall ∷ []) as_ended h.old.hand.party result.party }
 {
-    let ended = hand_on(h);
+    let Brings { number: _, brought } = async_task_schedule(h);
+    let ended = fetch(h, brought);
     caller.schedule(h, false);
-    ended
+    record(ended)
 }

@@ -18,7 +18,8 @@ pub returns-clause-handle : goal.returns-clause-handle
 returns-clause-handle c = let p = c.put.ensures.0 in let e = c.take-share.ensures.0 in let s = c.share-share.ensures in let m = c.into_maybe-share.ensures in (
   c.put.ensures.1,
   ap (λ x. x.share.maybe.there) p ∙ m.is_there,
-  λ i. ((ap (λ x. x.share.maybe.id) p ∙ (m.cell.0 ∙ (s.0 ∙ ap (λ x. x.share.maybe.id) e))) i, (ap (λ x. x.share.maybe.value) p ∙ (m.cell.1 ∙ (s.2 ∙ ap (λ x. x.share.maybe.value) e))) i),
+  ap (λ x. x.share.maybe.id) p ∙ (m.cell.0 ∙ (s.0 ∙ ap (λ x. x.share.maybe.id) e)),
+  ap (λ x. x.share.maybe.value) p ∙ (m.cell.1 ∙ (s.2 ∙ ap (λ x. x.share.maybe.value) e)),
   ap (λ k. k.limit) (ap (λ x. x.share.maybe.key) p ∙ (m.terms ∙ (s.1 ∙ ap (λ x. x.share.maybe.key) e))),
 )
 

@@ -1,4 +1,5 @@
-use Rattle.task_cell.proofs.Vocabulary.{None}
+use Rattle.std.specs.Prelude.{IfNone, ◌-◌, ◌^◌}
+use Rattle.task_steps.specs.Attempts.{HasMissed}
 use Rattle.std.proofs.Common.{refl, sym, ap, ◌∙◌, subst, Some}
 use Rattle.std.specs.Prelude.{IfSome}
 use Rattle.task_exports.proofs.Cancelling.{busy_cell, busy_stands, closed_so, deliverer_stands, handed_alone, handed_due, nobody_scheduled, row_cell, row_limit, row_over}
@@ -11,7 +12,7 @@ use Rattle.task_steps.specs.TaskScripts.{brings_share}
 use Rattle.task_exports.proofs.cancel.close.Goals as goal
 
 pub returns-in-None-clause-path : goal.returns-in-None-clause-path
-returns-in-None-clause-path c = λ n s. cancel_missed
+returns-in-None-clause-path c = λ n s. cancel_missed (subst (λ o. IfNone o (HasMissed (2 ^ 64 - 1) c.close_task_some.new.party.seat.me)) c.in-None.is c.close_task_some.ensures.missed)
 
 pub returns-in-Some-None-clause-path : goal.returns-in-Some-None-clause-path
 returns-in-Some-None-clause-path c = λ n s. row_over n c.args.party.now c.close_task_some.new.party _ (ap first c.in-Some-None.field-0-is) (c.in-Some-None.ensures.path n s)

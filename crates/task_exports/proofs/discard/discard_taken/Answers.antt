@@ -1,5 +1,5 @@
-use Rattle.task_cell.proofs.Vocabulary.{[], ◌∷◌, ◌∙◌, sym, ap, is_some, Some, None, OfDrop, Releaser}
-use Rattle.task_exports.proofs.Live.{of_cell, lives_on}
+use Rattle.task_cell.proofs.Vocabulary.{[], ◌∙◌, sym, ap, is_some, OfDrop}
+use Rattle.task_exports.proofs.Live.{lives_on}
 use Rattle.task_exports.proofs.Ending.{taken_wakes, taken_gives, taken_none}
 use Rattle.task_exports.proofs.discard.discard_taken.Goals as goal
 
@@ -18,4 +18,4 @@ give_back-requires-clause-party c = let s = c.requires.party in let e = c.end_no
 
 pub returns-in-None : goal.returns-in-None
 returns-in-None c = let s = c.requires.party in let e = c.end_notify-awaiter.ensures s.0 OfDrop s.1 [] s.2 s.3 in
-    taken_gives s.0 _ _ _ _ (sym e.is_there ∙ ap is_some c.in-None.is) e.word e.did c.give_back.ensures
+    taken_gives s.0 _ _ _ _ (sym e.is_there ∙ ap is_some c.in-None.is) e.word e.did c.give_back.ensures.path

@@ -1,7 +1,7 @@
-use Rattle.task_cell.proofs.Vocabulary.{[], ◌∷◌, ◌∙◌, sym, refl, OfDrop, Nothing, WakeAwaiter, act}
+use Rattle.task_cell.proofs.Vocabulary.{[], ◌∷◌, OfDrop, Nothing, WakeAwaiter, act}
 use Rattle.task_cell.proofs.Moved.{stands}
 use Rattle.task_exports.proofs.Given.{woken_at}
-use Rattle.task_exports.proofs.Live.{of_cell, lives_on}
+use Rattle.task_exports.proofs.Live.{lives_on}
 use Rattle.task_exports.proofs.Goes.{gives_on}
 use Rattle.task_exports.proofs.discard.discard_woken.Goals as goal
 
@@ -15,4 +15,4 @@ pub give_back-requires-clause-party : goal.give_back-requires-clause-party
 give_back-requires-clause-party c = (Nothing, stands _ _ _ _ _ (woken_at OfDrop _ _ _ c.requires.party.1 c.note_woken.ensures))
 
 pub returns : goal.returns
-returns c = gives_on (act WakeAwaiter ∷ []) [] _ _ _ _ _ _ (woken_at OfDrop _ _ _ c.requires.party.1 c.note_woken.ensures) c.give_back.ensures
+returns c = gives_on (act WakeAwaiter ∷ []) [] _ _ _ _ _ _ (woken_at OfDrop _ _ _ c.requires.party.1 c.note_woken.ensures) c.give_back.ensures.path

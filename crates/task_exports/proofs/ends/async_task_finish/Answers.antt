@@ -13,5 +13,5 @@ finish-hand-requires-clause-hand c = live_of _ _ c.open.ensures c.requires.handl
 pub finish-hand-requires-clause-party : goal.finish-hand-requires-clause-party
 finish-hand-requires-clause-party c = let s = c.requires.party in (s.0, s.1, subst (λ x. StandsWith (Releaser s.0 OfRun) (awaiter_first s.1 []) x.party) (sym c.open.ensures) s.2, s.3)
 
-pub returns : goal.returns
-returns c = record { path = along (λ x k. (awaiter : Option ℕ) × Finishes x k awaiter c.finish-hand.result.1) _ _ _ _ c.open.ensures c.close-left.ensures c.finish-hand.ensures }
+pub returns-clause-path : goal.returns-clause-path
+returns-clause-path c = along (λ x k. (awaiter : Option ℕ) × Finishes x k awaiter c.finish-hand.result.1) _ _ _ _ c.open.ensures c.close-left.ensures c.finish-hand.ensures.path

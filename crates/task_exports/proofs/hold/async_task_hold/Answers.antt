@@ -1,4 +1,3 @@
-use Rattle.task_cell.proofs.Vocabulary.{Some, None}
 use Rattle.task_exports.specs.Answers.{hold_missed, held}
 use Rattle.task_exports.proofs.Along.{lent_back}
 use Rattle.task_exports.proofs.hold.async_task_hold.Goals as goal

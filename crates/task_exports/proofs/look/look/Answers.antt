@@ -1,3 +1,5 @@
+use Rattle.std.specs.Prelude.{IfNone, ◌-◌, ◌^◌}
+use Rattle.task_steps.specs.Attempts.{HasMissed}
 use Rattle.std.proofs.Common.{sym, ◌∙◌, subst}
 use Rattle.task_cell.specs.PollPaths.{Looks}
 use Rattle.task_exports.proofs.LooksOn.{look_at_end, look_claims, look_ended, look_registers, look_stands}
@@ -6,7 +8,7 @@ use Rattle.task_cell.specs.Belongs.{values_in}
 use Rattle.task_exports.proofs.look.look.Goals as goal
 
 pub returns-in-None : goal.returns-in-None
-returns-in-None c = λ n s. poll_missed
+returns-in-None c = λ n s. poll_missed (subst (λ o. IfNone o (HasMissed (2 ^ 64 - 1) c.look_some.new.party.seat.me)) c.in-None.is c.look_some.ensures.missed)
 
 pub go_on_claimed-requires-clause-party : goal.go_on_claimed-requires-clause-party
 go_on_claimed-requires-clause-party c = look_stands c.in-Some-Ok.found c.args.party.now c.look_some.new.party c.awaiter.result (subst (λ x. Looks (values_in c.args.share.now) c.args.party.now c.look_some.new.party x) c.in-Some-Ok.field-0-is c.in-Some-Ok.ensures.path) c.awaiter.ensures

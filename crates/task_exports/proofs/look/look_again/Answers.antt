@@ -1,3 +1,5 @@
+use Rattle.std.specs.Prelude.{IfNone, ◌-◌, ◌^◌}
+use Rattle.task_steps.specs.Attempts.{HasMissed}
 use Rattle.std.proofs.Common.{sym, ◌∙◌, subst}
 use Rattle.task_cell.specs.PollPaths.{LooksAgain}
 use Rattle.task_exports.proofs.LooksOn.{again_at_end, again_claims, again_ended, again_stands, again_waits}
@@ -6,7 +8,7 @@ use Rattle.task_cell.specs.Belongs.{values_in}
 use Rattle.task_exports.proofs.look.look_again.Goals as goal
 
 pub returns-in-None : goal.returns-in-None
-returns-in-None c = λ i s. look_missed
+returns-in-None c = λ i s. look_missed (subst (λ o. IfNone o (HasMissed (2 ^ 64 - 1) c.look_again_some.new.party.seat.me)) c.in-None.is c.look_again_some.ensures.missed)
 
 pub go_on_claimed-requires-clause-party : goal.go_on_claimed-requires-clause-party
 go_on_claimed-requires-clause-party c = again_stands c.in-Some-Ok.found c.args.party.now c.look_again_some.new.party c.awaiter.result (subst (λ x. LooksAgain (values_in c.args.share.now) c.args.party.now c.look_again_some.new.party x) c.in-Some-Ok.field-0-is c.in-Some-Ok.ensures.path) c.awaiter.ensures

@@ -1,3 +1,5 @@
+use Rattle.std.specs.Prelude.{IfNone, ◌-◌, ◌^◌}
+use Rattle.task_steps.specs.Attempts.{HasMissed}
 use Rattle.std.proofs.Common.{subst}
 use Rattle.task_cell.specs.PollPaths.{EndsRegister}
 use Rattle.task_exports.proofs.Registering.{is_looking, is_registered, looks_now, takes_back}
@@ -8,7 +10,7 @@ pub end_register_some-requires-clause-party : goal.end_register_some-requires-cl
 end_register_some-requires-clause-party c = let s = c.requires.party in is_registered s.0 c.args.party.now s.1
 
 pub returns-in-None : goal.returns-in-None
-returns-in-None c = λ i s. end_missed
+returns-in-None c = λ i s. end_missed (subst (λ o. IfNone o (HasMissed (2 ^ 64 - 1) c.end_register_some.new.party.seat.me)) c.in-None.is c.end_register_some.ensures.missed)
 
 pub look_again-requires-clause-party : goal.look_again-requires-clause-party
 look_again-requires-clause-party c = let s = c.requires.party in is_looking s.0 c.args.party.now c.end_register_some.new.party s.1 (subst (λ b. EndsRegister c.args.party.now c.end_register_some.new.party b) c.in-Some-true.field-0-test c.in-Some-true.ensures.path)

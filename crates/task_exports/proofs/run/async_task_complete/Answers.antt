@@ -11,5 +11,5 @@ complete-hand-requires-clause-hand c = live_of _ _ c.open.ensures c.requires.han
 pub complete-hand-requires-clause-party : goal.complete-hand-requires-clause-party
 complete-hand-requires-clause-party c = let s = c.requires.party in (s.0, subst (λ x. StandsWith Polling (work_first s.0 []) x.party) (sym c.open.ensures) s.1)
 
-pub returns : goal.returns
-returns c = record { path = along (λ x k. Completed x k c.complete-hand.result.1) _ _ _ _ c.open.ensures c.close-left.ensures c.complete-hand.ensures }
+pub returns-clause-path : goal.returns-clause-path
+returns-clause-path c = along (λ x k. Completed x k c.complete-hand.result.1) _ _ _ _ c.open.ensures c.close-left.ensures c.complete-hand.ensures.path

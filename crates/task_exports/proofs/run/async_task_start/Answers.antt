@@ -11,5 +11,5 @@ start-hand-requires-clause-hand c = live_of _ _ c.open.ensures c.requires.handle
 pub start-hand-requires-clause-party : goal.start-hand-requires-clause-party
 start-hand-requires-clause-party c = subst (λ x. Stands as_runnable x.party) (sym c.open.ensures) c.requires.party
 
-pub returns : goal.returns
-returns c = record { path = along (λ x k. Starts x k c.start-hand.result.1) _ _ _ _ c.open.ensures c.close-left.ensures c.start-hand.ensures }
+pub returns-clause-path : goal.returns-clause-path
+returns-clause-path c = along (λ x k. Starts x k c.start-hand.result.1) _ _ _ _ c.open.ensures c.close-left.ensures c.start-hand.ensures.path

@@ -15,4 +15,4 @@ go_on-requires-clause-party c = (OfRun, (Ran false, refl), stands _ _ _ _ _ (c.d
 
 pub returns : goal.returns
 returns c = let h = c.drop_output.ensures c.args.due c.requires.party.0 c.requires.party.1 in
-    goes_on OfRun c.args.due (act DropOutput ∷ []) _ _ _ _ _ _ h (c.go_on.ensures OfRun (Ran false, refl) (stands _ _ _ _ _ h))
+    goes_on OfRun c.args.due (act DropOutput ∷ []) _ _ _ _ _ _ h (c.go_on.ensures.path OfRun (Ran false, refl) (stands _ _ _ _ _ h))

@@ -8,13 +8,14 @@ use Rattle.task_cell.proofs.RunEnds.{cleared_first, left_pending, by_end}
 use Rattle.task_exports.specs.Answers.{pend_missed, closed, woken, idle, orphaned}
 use Rattle.task_exports.proofs.Live.{of_cell, of_limit, lives_on, lives_kept}
 use Rattle.task_exports.proofs.Unknown.{known_future}
+use Rattle.task_steps.proofs.Bools.{never}
 use Rattle.task_exports.proofs.run.pend.Goals as goal
 
 pub answer_pending-found-requires-clause-party : goal.answer_pending-found-requires-clause-party
 answer_pending-found-requires-clause-party c = let s = c.requires.party in (work_first s.0 [], s.1)
 
-pub returns-then-closed : goal.returns-then-closed
-returns-then-closed c = let s = c.requires.party in let a = c.answer_pending-found.ensures.path (work_first s.0 []) s.1 in
+pub returns-then-closed-clause-path : goal.returns-then-closed-clause-path
+returns-then-closed-clause-path c = let s = c.requires.party in let a = c.answer_pending-found.ensures.path (work_first s.0 []) s.1 in
     let d = cleared_first _ _ _ _ a (sym c.closed.ensures ∙ c.if-closed.true) in closed s.0 (lives_on c.args.hand.share c.into_maybe-share.result c.share-share.result c.args.hand.party _ _ _ _ c.requires.hand c.share-share.ensures c.into_maybe-share.ensures d) d
 
 pub end_pending_some-requires-clause-cell : goal.end_pending_some-requires-clause-cell
@@ -34,8 +35,8 @@ hand_on-hand-requires-clause-cell c = let s = c.requires.party in let x = by_end
 pub hand_on-hand-requires-clause-party : goal.hand_on-hand-requires-clause-party
 hand_on-hand-requires-clause-party c = let s = c.requires.party in let x = by_end _ _ _ _ _ s.0 (c.answer_pending-found.ensures.path (work_first s.0 []) s.1) (sym c.closed.ensures ∙ c.if-closed.false) c.in-Ok-Ok.ensures.path (Some Rescheduled) (ap end_of c.in-Ok-Ok.field-0-is ∙ ap (λ x. Some x) c.in-Rescheduled.is) in (Deliverer true (ThenEnds (Ran true)), Ran true, refl, refl, stands _ _ _ _ _ x.3)
 
-pub returns-in-Rescheduled : goal.returns-in-Rescheduled
-returns-in-Rescheduled c = let s = c.requires.party in let x = by_end _ _ _ _ _ s.0 (c.answer_pending-found.ensures.path (work_first s.0 []) s.1) (sym c.closed.ensures ∙ c.if-closed.false) c.in-Ok-Ok.ensures.path (Some Rescheduled) (ap end_of c.in-Ok-Ok.field-0-is ∙ ap (λ x. Some x) c.in-Rescheduled.is) in let o = c.hand_on-hand.ensures in woken x.0 c.hand_on-hand.result.1.party x.1 x.2 o.runnable.0 o.runnable.2
+pub returns-in-Rescheduled-clause-path : goal.returns-in-Rescheduled-clause-path
+returns-in-Rescheduled-clause-path c = let s = c.requires.party in let x = by_end _ _ _ _ _ s.0 (c.answer_pending-found.ensures.path (work_first s.0 []) s.1) (sym c.closed.ensures ∙ c.if-closed.false) c.in-Ok-Ok.ensures.path (Some Rescheduled) (ap end_of c.in-Ok-Ok.field-0-is ∙ ap (λ x. Some x) c.in-Rescheduled.is) in let o = c.hand_on-hand.ensures in woken x.0 c.hand_on-hand.result.1.party x.1 x.2 o.runnable.0 o.runnable.2
     (did_then _ _ _ (act AnswerPending ∷ row Reschedule x.0 ∷ []) (act HandOver ∷ act EndCall ∷ []) (Deliverer true (ThenEnds (Ran true))) as_ended [] [] x.3 o.ended)
 
 pub share-requires-in-Orphaned : goal.share-requires-in-Orphaned
@@ -48,17 +49,41 @@ hand_on-hand-requires-in-Orphaned-clause-cell c = let s = c.requires.party in le
 pub hand_on-hand-requires-in-Orphaned-clause-party : goal.hand_on-hand-requires-in-Orphaned-clause-party
 hand_on-hand-requires-in-Orphaned-clause-party c = let s = c.requires.party in let x = by_end _ _ _ _ _ s.0 (c.answer_pending-found.ensures.path (work_first s.0 []) s.1) (sym c.closed.ensures ∙ c.if-closed.false) c.in-Ok-Ok.ensures.path (Some Orphaned) (ap end_of c.in-Ok-Ok.field-0-is ∙ ap (λ x. Some x) c.in-Orphaned.is) in (Deliverer false (ThenEnds (Ran false)), Ran false, refl, refl, stands _ _ _ _ _ x.4)
 
-pub returns-in-Orphaned : goal.returns-in-Orphaned
-returns-in-Orphaned c = let s = c.requires.party in let x = by_end _ _ _ _ _ s.0 (c.answer_pending-found.ensures.path (work_first s.0 []) s.1) (sym c.closed.ensures ∙ c.if-closed.false) c.in-Ok-Ok.ensures.path (Some Orphaned) (ap end_of c.in-Ok-Ok.field-0-is ∙ ap (λ x. Some x) c.in-Orphaned.is) in let o = c.hand_on-hand-in-Orphaned.ensures in orphaned x.0 c.hand_on-hand-in-Orphaned.result.1.party x.1 x.2 x.3 o.runnable.0 o.runnable.2
+pub returns-in-Orphaned-clause-path : goal.returns-in-Orphaned-clause-path
+returns-in-Orphaned-clause-path c = let s = c.requires.party in let x = by_end _ _ _ _ _ s.0 (c.answer_pending-found.ensures.path (work_first s.0 []) s.1) (sym c.closed.ensures ∙ c.if-closed.false) c.in-Ok-Ok.ensures.path (Some Orphaned) (ap end_of c.in-Ok-Ok.field-0-is ∙ ap (λ x. Some x) c.in-Orphaned.is) in let o = c.hand_on-hand-in-Orphaned.ensures in orphaned x.0 c.hand_on-hand-in-Orphaned.result.1.party x.1 x.2 x.3 o.runnable.0 o.runnable.2
     (did_then _ _ _ (act AnswerPending ∷ row EndOrphaned x.0 ∷ []) (act HandOver ∷ act EndCall ∷ []) (Deliverer false (ThenEnds (Ran false))) as_ended [] [] x.4 o.ended)
 
-pub returns-in-Idle : goal.returns-in-Idle
-returns-in-Idle c = let s = c.requires.party in let x = by_end _ _ _ _ _ s.0 (c.answer_pending-found.ensures.path (work_first s.0 []) s.1) (sym c.closed.ensures ∙ c.if-closed.false) c.in-Ok-Ok.ensures.path (Some Idle) (ap end_of c.in-Ok-Ok.field-0-is ∙ ap (λ x. Some x) c.in-Idle.is) in let l = subst (λ t. IfOk t (λ r. Leaves c.share-share.result r.1 (not (ends_run r.0)))) c.in-Ok-Ok.field-0-is c.in-Ok-Ok.ensures.share in idle x.0 x.1 x.2 x.3 (l.is_there ∙ ap (λ x. not (ends_run x)) c.in-Idle.is) x.4
+pub returns-in-Idle-clause-path : goal.returns-in-Idle-clause-path
+returns-in-Idle-clause-path c = let s = c.requires.party in let x = by_end _ _ _ _ _ s.0 (c.answer_pending-found.ensures.path (work_first s.0 []) s.1) (sym c.closed.ensures ∙ c.if-closed.false) c.in-Ok-Ok.ensures.path (Some Idle) (ap end_of c.in-Ok-Ok.field-0-is ∙ ap (λ x. Some x) c.in-Idle.is) in let l = subst (λ t. IfOk t (λ r. Leaves c.share-share.result r.1 (not (ends_run r.0)))) c.in-Ok-Ok.field-0-is c.in-Ok-Ok.ensures.share in idle x.0 x.1 x.2 x.3 (l.is_there ∙ ap (λ x. not (ends_run x)) c.in-Idle.is) x.4
 
-pub returns-in-Ok-Err : goal.returns-in-Ok-Err
-returns-in-Ok-Err c = let s = c.requires.party in let x = by_end _ _ _ _ _ s.0 (c.answer_pending-found.ensures.path (work_first s.0 []) s.1) (sym c.closed.ensures ∙ c.if-closed.false) c.in-Ok-Err.ensures.path None (ap end_of c.in-Ok-Err.field-0-is) in
+pub returns-in-Ok-Err-clause-path : goal.returns-in-Ok-Err-clause-path
+returns-in-Ok-Err-clause-path c = let s = c.requires.party in let x = by_end _ _ _ _ _ s.0 (c.answer_pending-found.ensures.path (work_first s.0 []) s.1) (sym c.closed.ensures ∙ c.if-closed.false) c.in-Ok-Err.ensures.path None (ap end_of c.in-Ok-Err.field-0-is) in
     let same = subst (λ t. IfErr t (λ k. IsSame c.share-share.result k)) c.in-Ok-Err.field-0-is c.in-Ok-Err.ensures.kept in
     closed s.0 (lives_kept c.args.hand.share c.into_maybe-share-in-Ok-Err.result c.share-share.result c.in-Ok-Err.kept c.args.hand.party _ _ _ _ c.requires.hand c.share-share.ensures same c.into_maybe-share-in-Ok-Err.ensures x) x
 
-pub returns-in-Err : goal.returns-in-Err
-returns-in-Err c = pend_missed
+pub returns-in-Err-clause-path : goal.returns-in-Err-clause-path
+returns-in-Err-clause-path c = pend_missed c.in-Err.ensures.missed
+
+pub returns-then-closed-clause-bits : goal.returns-then-closed-clause-bits
+returns-then-closed-clause-bits c = λ _. c.into_maybe-share.ensures.cell.0 ∙ c.share-share.ensures.0
+
+pub returns-in-Rescheduled-clause-bits : goal.returns-in-Rescheduled-clause-bits
+returns-in-Rescheduled-clause-bits c = λ _. let l = subst (λ t. IfOk t (λ r. Leaves c.share-share.result r.1 (not (ends_run r.0)))) c.in-Ok-Ok.field-0-is c.in-Ok-Ok.ensures.share in c.hand_on-hand.ensures.runnable.1.0 ∙ (c.share.ensures.0 ∙ (l.cell.0 ∙ c.share-share.ensures.0))
+
+pub returns-in-Idle-clause-bits : goal.returns-in-Idle-clause-bits
+returns-in-Idle-clause-bits c = λ _. let l = subst (λ t. IfOk t (λ r. Leaves c.share-share.result r.1 (not (ends_run r.0)))) c.in-Ok-Ok.field-0-is c.in-Ok-Ok.ensures.share in l.cell.0 ∙ c.share-share.ensures.0
+
+pub returns-in-Orphaned-clause-bits : goal.returns-in-Orphaned-clause-bits
+returns-in-Orphaned-clause-bits c = λ _. let l = subst (λ t. IfOk t (λ r. Leaves c.share-share.result r.1 (not (ends_run r.0)))) c.in-Ok-Ok.field-0-is c.in-Ok-Ok.ensures.share in c.hand_on-hand-in-Orphaned.ensures.runnable.1.0 ∙ (c.share-in-Orphaned.ensures.0 ∙ (l.cell.0 ∙ c.share-share.ensures.0))
+
+pub returns-in-Ok-Err-clause-bits : goal.returns-in-Ok-Err-clause-bits
+returns-in-Ok-Err-clause-bits c = λ _. let same = subst (λ t. IfErr t (λ k. IsSame c.share-share.result k)) c.in-Ok-Err.field-0-is c.in-Ok-Err.ensures.kept in c.into_maybe-share-in-Ok-Err.ensures.cell.0 ∙ (same.0 ∙ c.share-share.ensures.0)
+
+pub returns-in-Rescheduled-clause-record : goal.returns-in-Rescheduled-clause-record
+returns-in-Rescheduled-clause-record c = let l = subst (λ t. IfOk t (λ r. Leaves c.share-share.result r.1 (not (ends_run r.0)))) c.in-Ok-Ok.field-0-is c.in-Ok-Ok.ensures.share in (c.hand_on-hand.ensures.record.0, c.hand_on-hand.ensures.record.1 ∙ (c.share.ensures.0 ∙ (l.cell.0 ∙ c.share-share.ensures.0)))
+
+pub returns-in-Orphaned-clause-record : goal.returns-in-Orphaned-clause-record
+returns-in-Orphaned-clause-record c = let l = subst (λ t. IfOk t (λ r. Leaves c.share-share.result r.1 (not (ends_run r.0)))) c.in-Ok-Ok.field-0-is c.in-Ok-Ok.ensures.share in (c.hand_on-hand-in-Orphaned.ensures.record.0, c.hand_on-hand-in-Orphaned.ensures.record.1 ∙ (c.share-in-Orphaned.ensures.0 ∙ (l.cell.0 ∙ c.share-share.ensures.0)))
+
+pub returns-in-Err-clause-bits : goal.returns-in-Err-clause-bits
+returns-in-Err-clause-bits c = λ e. never (sym e)

@@ -28,4 +28,4 @@ pub returns : goal.returns
 returns c = let s = c.requires.party in let x = c.take.ensures (FutureGone ClosedRun) s.0 [] s.1 in let w = c.unschedule-found.result in
     let h = unscheduled ClosedRun w (work_first Empty []) _ _ _ x c.unschedule-found.ensures in
     let m : Hand = record { share = c.into_maybe-share.result; party = c.unschedule-found.new.party } in let t = subst (λ b. Stands (notifies b OfRun) c.unschedule-found.new.party) (sym c.awaiter.ensures) (stands _ _ _ _ _ h) in
-    (w, goes_on OfRun w.awaiter (row Unschedule w ∷ []) _ _ _ m _ _ h (subst (λ b. GoesOn OfRun b [] m c.go_on.result.0 c.go_on.result.1) c.awaiter.ensures (c.go_on.ensures OfRun (Ran false, refl) t)))
+    (w, goes_on OfRun w.awaiter (row Unschedule w ∷ []) _ _ _ m _ _ h (subst (λ b. GoesOn OfRun b [] m c.go_on.result.0 c.go_on.result.1) c.awaiter.ensures (c.go_on.ensures.path OfRun (Ran false, refl) t)))

@@ -1,4 +1,4 @@
-use Rattle.task_cell.proofs.Vocabulary.{[], ◌∷◌, ◌∙◌, sym, subst, Did, EndCall, Ended, HandOver, act, as_ended}
+use Rattle.task_cell.proofs.Vocabulary.{[], ◌∷◌, ◌∙◌, sym, Ended, HandOver, act}
 use Rattle.task_steps.specs.Standing.{as_runnable}
 use Rattle.task_cell.proofs.Moved.{stands}
 use Rattle.task_cell.proofs.WakerMoves.{fresh_stands}
@@ -12,8 +12,8 @@ hand_over-runnable-requires-clause-party c = let s = c.requires.party in (s.0, s
 pub end-requires-clause-party : goal.end-requires-clause-party
 end-requires-clause-party c = let s = c.requires.party in (s.1, Ended, stands _ _ _ _ _ (handed_on _ _ s.0 s.1 s.3 s.4 c.hand_over-runnable.ensures.path))
 
-pub invariant_of-ended : goal.invariant_of-ended
-invariant_of-ended c = let s = c.requires.party in record { ended = stands _ _ _ _ _ (and_ends (act HandOver ∷ []) s.1 _ _ _ (handed_on _ _ s.0 s.1 s.3 s.4 c.hand_over-runnable.ensures.path) c.end.ensures) }
+pub returns-clause-record : goal.returns-clause-record
+returns-clause-record c = (c.gone.ensures.is_there, c.gone.ensures.cell.0)
 
 pub returns-clause-runnable : goal.returns-clause-runnable
 returns-clause-runnable c = let n = c.hand_over-runnable.ensures.runnable in let m = c.into_maybe.ensures in (

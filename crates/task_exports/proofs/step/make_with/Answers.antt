@@ -9,4 +9,4 @@ pub make-answer-requires-clause-cell : goal.make-answer-requires-clause-cell
 make-answer-requires-clause-cell g c = let l = c.requires.handle in (l.1 ∙ sym c.share-share.ensures.0, l.2 ∙ sym (ap (λ k. k.limit) c.share-share.ensures.1))
 
 pub returns-clause-handle : goal.returns-clause-handle
-returns-clause-handle g c = let s = c.share-share.ensures in let m = c.into_maybe-share.ensures in (m.is_there, λ i. ((m.cell.0 ∙ s.0) i, (m.cell.1 ∙ s.2) i), ap (λ k. k.limit) (m.terms ∙ s.1))
+returns-clause-handle g c = let s = c.share-share.ensures in let m = c.into_maybe-share.ensures in (m.is_there, m.cell.0 ∙ s.0, m.cell.1 ∙ s.2, ap (λ k. k.limit) (m.terms ∙ s.1))

@@ -3,11 +3,11 @@ use Rattle.task_cell.specs.Calls.{Stands}
 use Rattle.task_steps.specs.Standing.{as_ended}
 use Rattle.task_exports.proofs.calls.ends.over.Goals as goal
 
-pub none-requires : goal.none-requires
-none-requires c = record { there = ap (λ x. x.share.maybe.there) c.take-share.ensures.0 ∙ c.requires.gone }
+pub record-requires-clause-gone : goal.record-requires-clause-gone
+record-requires-clause-gone c = ap (λ x. x.share.maybe.there) c.take.ensures.0 ∙ c.requires.gone
 
-pub invariant_of-result : goal.invariant_of-result
-invariant_of-result c = record { ended = subst (λ x. Stands as_ended x.party) (sym c.take-share.ensures.0) c.requires.party }
+pub record-requires-clause-party : goal.record-requires-clause-party
+record-requires-clause-party c = subst (λ x. Stands as_ended x.party) (sym c.take.ensures.0) c.requires.party
 
 pub returns : goal.returns
-returns c = ap (λ x. x.party) c.take-share.ensures.0
+returns c = c.record.ensures ∙ ap (λ x. x.party) c.take.ensures.0

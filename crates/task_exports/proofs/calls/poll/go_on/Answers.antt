@@ -9,6 +9,8 @@ use Rattle.task_exports.specs.CallPaths.{refuses, registers_first}
 use Rattle.task_laws.specs.declared.positions.Position.TheVariants.{Looking}
 use Rattle.task_steps.specs.Deeds.{act}
 use Rattle.task_steps.specs.Standing.{as_task}
+use Rattle.task_exports.proofs.Crossing.{crossed}
+use Rattle.task_exports.proofs.Told.{clone_refused}
 use Rattle.task_exports.proofs.calls.poll.go_on.Goals as goal
 
 pub look_on-requires : goal.look_on-requires
@@ -23,4 +25,4 @@ returns-in-Some-clause-path g c = λ i s. let r = c.in-Some.ensures.path i s in 
     (λ told y. (r.0 ++ y.0, registers_first r.0 y.0 told r.1 y.1, done_then g.C.Caller.did r.0 y.0 r.2 y.2, did_then _ _ _ r.0 y.0 (Looking i) (as_task i) [] [] r.3.1 y.3))
 
 pub returns-clause-path : goal.returns-clause-path
-returns-clause-path g c = λ i s. (act RefuseClone ∷ act EndCall ∷ [], refuses _ c.in-Err.ensures, (tt, (tt, tt)), (c.make_at.ensures.does i s).1)
+returns-clause-path g c = λ i s. (act RefuseClone ∷ act EndCall ∷ [], refuses _ c.in-Err.ensures, (tt, (tt, tt)), ((crossed clone_refused c.lend-bits.ensures.handle.0 c.back.ensures c.async_task_clone_refused.ensures.path) i s).1)

@@ -1,5 +1,4 @@
-use Rattle.task_cell.proofs.Vocabulary.{Some, None}
-use Rattle.std.proofs.Common.{[], refl, ◌∙◌}
+use Rattle.std.proofs.Common.{[], ◌∙◌}
 use Rattle.task_exports.proofs.Cancelling.{ends_not_there, is_in_hand, is_not_there}
 use Rattle.task_cell.proofs.Moved.{stands}
 use Rattle.task_laws.specs.declared.positions.Answer.TheVariants.{Nothing}

@@ -1,3 +1,5 @@
+use Rattle.std.specs.Prelude.{IfNone, ◌-◌, ◌^◌}
+use Rattle.task_steps.specs.Attempts.{HasMissed}
 use Rattle.std.proofs.Common.{subst}
 use Rattle.task_cell.specs.PollPaths.{BeginsRegister}
 use Rattle.task_exports.proofs.Registering.{found_notifier, has_begun, stored}
@@ -5,7 +7,7 @@ use Rattle.task_exports.specs.TaskAnswers.{store_missed}
 use Rattle.task_exports.proofs.register.RegisterStep.make.Goals as goal
 
 pub returns-in-None : goal.returns-in-None
-returns-in-None c = record { does = λ n s1. store_missed }
+returns-in-None c = record { does = λ n s1. store_missed (subst (λ o. IfNone o (HasMissed (2 ^ 64 - 1) c.begin_register_some.new.party.seat.me)) c.in-None.is c.begin_register_some.ensures.missed) }
 
 pub returns-in-Some-false : goal.returns-in-Some-false
 returns-in-Some-false c = record { does = λ n s1. (found_notifier n c.args.party.now c.begin_register_some.new.party s1 (subst (λ b. BeginsRegister c.args.party.now c.begin_register_some.new.party b) c.in-Some-false.field-0-test c.in-Some-false.ensures.path)) }

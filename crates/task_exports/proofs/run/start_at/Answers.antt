@@ -1,6 +1,0 @@
-use Rattle.task_exports.specs.Answers.{Starts}
-use Rattle.task_exports.proofs.Along.{along}
-use Rattle.task_exports.proofs.run.start_at.Goals as goal
-
-pub returns-clause-path : goal.returns-clause-path
-returns-clause-path c = along (λ x k. Starts x k c.start-hand.result.1) _ _ _ _ c.take.ensures.0 c.put.ensures.0 c.start-hand.ensures
