@@ -1,5 +1,5 @@
 -- The bits of a share are read through a `&` to it.
-use Rattle.task_exports.proofs.LentWalks.{!, List, [], ◌∷◌, refl, ◌≡◌, id⊢, fat, flft, ty_ptr, Val, ent, sep, Logic, Ura, ‵, ◌⊛◌, ◌$◌, ◌∵◌, qed, done, move, keep, drop, use1, split, rewrite, fsplit, feq_i, feq_l, ℕ, Item, Fml, Lft, Share, sem, Ptr, RawPtr, ptr_val, shared_of}
+use Rattle.task_exports.proofs.LentWalks.{ !, List, [], ◌∷◌, refl, ◌≡◌, id⊢, fat, flft, ty_ptr, Val, ent, sep, Logic, Ura, ‵, ◌⊛◌, ◌$◌, ◌∵◌, qed, done, move, keep, drop, use1, split, rewrite, fsplit, feq_i, feq_l, ℕ, Item, Fml, Lft, Share, sem, Ptr, RawPtr, ptr_val, shared_of}
 use Rattle.std.proofs.Common.{◌+◌, arith}
 use denote.Copied.{plain_Copied}
 use denote.Memory.{cell_at, hidden_shr, part_at}

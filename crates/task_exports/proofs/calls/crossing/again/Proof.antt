@@ -1,5 +1,5 @@
 -- `again` puts the bits that were kept beside what an export has left.
-use Rattle.task_exports.proofs.Walks.{!, [], ◌∷◌, refl, sym, ap, ◌∙◌, ◌≡◌, proved, Goes-blank, ftrue, fact, ‵, raw, ◌⊛◌, ◌$◌, ◌∵◌, qed, done, move, keep, drop, use0, split, join, fsplit, fjoin, fpick, fpack, suffices, enter, of_opd, stop, fld, no_more, and_then, agg, returns, alloc_all, pass_all, free_all, look_at, get, get_in, sets, whole, sub, yes, rest, shows, Is, ptr_val, rawptr_Lawful, RattleType, plain, nothing, heard, peeks, Stays, walk_of, says, stay_dropped, ends_at, makes_shadow, Struct, shape}
+use Rattle.task_exports.proofs.Walks.{ !, [], ◌∷◌, refl, sym, ap, ◌∙◌, ◌≡◌, proved, Goes-blank, ftrue, fact, ‵, raw, ◌⊛◌, ◌$◌, ◌∵◌, qed, done, move, keep, drop, use0, split, join, fsplit, fjoin, fpick, fpack, suffices, enter, of_opd, stop, fld, no_more, and_then, agg, returns, alloc_all, pass_all, free_all, look_at, get, get_in, sets, whole, sub, yes, rest, shows, Is, ptr_val, rawptr_Lawful, RattleType, plain, nothing, heard, peeks, Stays, walk_of, says, stay_dropped, ends_at, makes_shadow, Struct, shape}
 use Rattle.task_exports.specs.Hands.{SameBits}
 use Rattle.task_exports.specs.contracts.bits.Bits as bits
 use Rattle.task_exports.specs.contracts.bits.Left as left

@@ -1,5 +1,5 @@
 -- `cross` writes a hand into a place, and reads its pointer there.
-use Rattle.task_exports.proofs.Walks.{!, List, [], ◌∷◌, refl, ◌≡◌, ◌++◌, proved, after, Goes-blank, full_share, ftrue, fat, froom, Ty, Val, vstruct, vcons, vnil, of_list, tables, ‵, raw, ◌⊛◌, at_ret, ◌$◌, ◌∵◌, qed, done, move, keep, use0, use1, use2, split, split3, fjoin, fpack, feq_i, fsep, feq, rewrite, suffices, enter, of_opd, load, look, first, blocks, exec, returns, init, assigns_last, addr, from, forget, lit, no_more, and_then, agg, alloc_all, pass_all, free_all, look_at, get, through, stop, sets, sets_last, take_at, give_at, env, yes, rest, shows, Is, lone, Ptr, ptr_val, RattleType, Valss, owns, plain, nothing, join, peeks, Stays, walk_of, says, stay_dropped, ends_at, apply∗, wand, ty_int, ty_ptr, w64, lit<, makes_shadow, Struct, shape}
+use Rattle.task_exports.proofs.Walks.{ !, List, [], ◌∷◌, refl, ◌≡◌, ◌++◌, proved, after, Goes-blank, full_share, ftrue, fat, froom, Ty, Val, vstruct, vcons, vnil, of_list, tables, ‵, raw, ◌⊛◌, at_ret, ◌$◌, ◌∵◌, qed, done, move, keep, use0, use1, use2, split, split3, fjoin, fpack, feq_i, fsep, feq, rewrite, suffices, enter, of_opd, load, look, first, blocks, exec, returns, init, assigns_last, addr, from, forget, lit, no_more, and_then, agg, alloc_all, pass_all, free_all, look_at, get, through, stop, sets, sets_last, take_at, give_at, env, yes, rest, shows, Is, lone, Ptr, ptr_val, RattleType, Valss, owns, plain, nothing, join, peeks, Stays, walk_of, says, stay_dropped, ends_at, apply∗, wand, ty_int, ty_ptr, w64, lit<, makes_shadow, Struct, shape}
 use Rattle.task_exports.specs.contracts.hand.Hand as lying
 use Rattle.task_exports.proofs.hand.Hand.TheLaws.{the_row_laws as lying_laws, lowers as lying_lowers}
 use Rattle.task_exports.specs.contracts.bits.Bits as bits

@@ -1,5 +1,5 @@
 -- `lose` lets go of an answer after which the process ends.
-use Rattle.task_exports.proofs.Walks.{!, [], ◌∷◌, refl, ◌≡◌, proved, Goes-blank, ftrue, vunit, fact, ‵, raw, ◌⊛◌, ◌$◌, ◌∵◌, qed, done, move, keep, split, join, feq_i, group, suffices, enter, of_opd, unit_lit, returns, alloc_all, pass_all, free_all, look_at, sets, yes, rest, shows, Is, RattleType, plain, nothing, peeks, Stays, walk_of, stay_dropped, ends_at}
+use Rattle.task_exports.proofs.Walks.{ !, [], ◌∷◌, refl, ◌≡◌, proved, Goes-blank, ftrue, vunit, fact, ‵, raw, ◌⊛◌, ◌$◌, ◌∵◌, qed, done, move, keep, split, join, feq_i, group, suffices, enter, of_opd, unit_lit, returns, alloc_all, pass_all, free_all, look_at, sets, yes, rest, shows, Is, RattleType, plain, nothing, peeks, Stays, walk_of, stay_dropped, ends_at}
 use Rattle.task_exports.specs.contracts.bits.Ends as answers
 use Rattle.task_exports.proofs.bits.Ends.TheLaws.{lowers, the_row_laws as laws}
 use Rattle.task_exports.specs.contracts.calls.crossing.lose as contract

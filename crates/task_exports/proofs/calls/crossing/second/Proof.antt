@@ -1,5 +1,5 @@
 -- `second` takes what was brought as what is left of a handle.
-use Rattle.task_exports.proofs.Walks.{!, [], ◌∷◌, refl, ◌≡◌, true, proved, Goes-blank, ftrue, fact, ‵, raw, ◌⊛◌, ◌$◌, ◌∵◌, qed, done, move, keep, use0, split, join, fsplit, fjoin, rewrite, suffices, enter, no_more, agg, returns, alloc_all, pass_all, free_all, look_at, sets, yes, rest, shows, Is, RattleType, plain, nothing, heard, peeks, Stays, walk_of, says, stay_dropped, ends_at, makes_shadow, Struct, shape}
+use Rattle.task_exports.proofs.Walks.{ !, [], ◌∷◌, refl, ◌≡◌, true, proved, Goes-blank, ftrue, fact, ‵, raw, ◌⊛◌, ◌$◌, ◌∵◌, qed, done, move, keep, use0, split, join, fsplit, fjoin, rewrite, suffices, enter, no_more, agg, returns, alloc_all, pass_all, free_all, look_at, sets, yes, rest, shows, Is, RattleType, plain, nothing, heard, peeks, Stays, walk_of, says, stay_dropped, ends_at, makes_shadow, Struct, shape}
 use Rattle.std.specs.Prelude.{Option, Some, None, is_some}
 use Rattle.task_exports.specs.Places.{owned_if}
 use Rattle.task_exports.specs.contracts.bits.Brought as brought

@@ -1,5 +1,5 @@
 -- `gain_share` lends the export what a `&` to a share has, and the bits of that share.
-use Rattle.task_exports.proofs.LentWalks.{!, [], ◌∷◌, ◌≡◌, refl, proved, after, ftrue, flft, fact, named, tables, ‵, raw, ◌⊛◌, some, later, await, at_ret, ◌$◌, ◌∵◌, qed, done, move, keep, use0, use1, use2, split, join, fsplit, fjoin, feq_i, pick, suffices, enter, of_opd, load, look, stop, addr, no_more, and_then, first, blocks, exec, returns, alloc_all, pass_all, free_all, look_at, get, through, sets, sets_last, lands_as, env, yes, shows, Is, Ptr, ptr_val, rawptr_vals, rawptr_Lawful, plain, nothing, heard, drop, peeks, id⊢, emp, fact_i, Stays, walk_of, says, stay_dropped, Goes-dropped, ends_at, Lft, Share, RefOf, shr_vals, shr_Tells, calls_at, lasts, triple_of, framed}
+use Rattle.task_exports.proofs.LentWalks.{ !, [], ◌∷◌, ◌≡◌, refl, proved, after, ftrue, flft, fact, named, tables, ‵, raw, ◌⊛◌, some, later, await, at_ret, ◌$◌, ◌∵◌, qed, done, move, keep, use0, use1, use2, split, join, fsplit, fjoin, feq_i, pick, suffices, enter, of_opd, load, look, stop, addr, no_more, and_then, first, blocks, exec, returns, alloc_all, pass_all, free_all, look_at, get, through, sets, sets_last, lands_as, env, yes, shows, Is, Ptr, ptr_val, rawptr_vals, rawptr_Lawful, plain, nothing, heard, drop, peeks, id⊢, emp, fact_i, Stays, walk_of, says, stay_dropped, Goes-dropped, ends_at, Lft, Share, RefOf, shr_vals, shr_Tells, calls_at, lasts, triple_of, framed}
 use Rattle.task_exports.proofs.Shown.{bits_in, bits_out, shows_bits}
 use Rattle.task_exports.specs.Answers.{Comes, Gains}
 use Rattle.task_exports.specs.Lent.{IsShareOf, Loan}
