@@ -10,6 +10,7 @@ mod deadlines;
 mod debug;
 mod ending;
 pub mod errors;
+pub mod generic;
 pub mod kept;
 pub mod kept_group;
 mod mail;
