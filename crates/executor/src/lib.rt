@@ -11,6 +11,7 @@ mod debug;
 mod due;
 mod ending;
 pub mod errors;
+pub mod generic;
 mod hooks;
 pub mod kept;
 pub mod kept_group;
