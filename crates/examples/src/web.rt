@@ -63,7 +63,7 @@ fn work_both<R: Wait + Clock + Threads + Drop + Copy + Send + Sync + 'static>(
     timers.close();
 }
 
-// Runs all threads to their end: whether there was one that drives the timers.
+// Runs all threads to their end, and answers whether there was one that drives the timers.
 fn run<R: Wait + Clock + Threads + Drop + Copy + Send + Sync + 'static>(
     pool: &JobPool<R>,
     timers: &JobTimers<R>,
