@@ -168,10 +168,6 @@ fn cancel_while_refused<R: Wait + Abort + Drop + Copy>(
 #[test]
 fn a_refusal_keeps_no_other_member_from_its_cancel(rt: HostRuntime) {
     let (cancelled, found) = cancel_while_refused(rt, rt.alloc());
-    let expected = [
-        Err(AwaiterRefused),
-        Ok(Some((0, 0))),
-        Ok(Some((1, 0))),
-    ];
+    let expected = [Err(AwaiterRefused), Ok(Some((0, 0))), Ok(Some((1, 0)))];
     assert!(rt; cancelled == Err(AwaiterRefused) && found == expected);
 }

@@ -1,4 +1,4 @@
-use Rattle.std.proofs.Common.{◌∙◌, refl}
+use Rattle.std.proofs.Common.{◌∙◌, refl, rules}
 use Rattle.executor_parts.proofs.Outputs.{came-before}
 use Rattle.executor.proofs.LaterMembers.{if-next, next-later, refused-later}
 use Rattle.executor.proofs.members.Turns+R+F+BellAwaiter+R+B+M.next_member_until.Goals as goal
@@ -17,3 +17,13 @@ returns-in-Some-look-clause-gives g c = if-next _ c.in-Some-look.ensures.gives (
 
 pub returns-in-Some-look-clause-none_more : goal.returns-in-Some-look-clause-none_more
 returns-in-Some-look-clause-none_more g c = λ number output may. c.loop.invariant.none_more number output (c.in-Some-look.ensures.none_more number output may)
+
+pub loop-preserved : goal.loop-preserved
+loop-preserved g c = record {
+  can_next = search rules;
+  is_finite = search rules;
+  same = λ number. c.in_default.ensures.stays refl number ∙ c.loop.invariant.same number;
+  len = c.in_default.ensures.len refl ∙ c.loop.invariant.len;
+  none_more = λ number output may. c.loop.invariant.none_more number output (c.in_default.ensures.none_more number output may);
+  room = c.in_default.ensures.room ∙ c.loop.invariant.room;
+}
