@@ -27,3 +27,6 @@ loop-preserved g c = record {
   none_more = λ number output may. c.loop.invariant.none_more number output (c.in_default.ensures.none_more number output may);
   room = c.in_default.ensures.room ∙ c.loop.invariant.room;
 }
+
+pub returns-then-is_over-clause-none_more : goal.returns-then-is_over-clause-none_more
+returns-then-is_over-clause-none_more g c = λ number output may. c.loop.invariant.none_more number output (c.in_default.ensures.none_more number output may)
