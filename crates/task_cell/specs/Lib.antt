@@ -13,3 +13,4 @@ pub mod WakerPaths
 pub mod Stores
 pub mod Gained
 pub mod WakerCalls
+pub mod Woken

@@ -10,6 +10,7 @@ use Rattle.task_core.specs.declared.acts.Act.TheVariants.{TakeAwaiter, FindNotif
 use Rattle.task_core.specs.declared.acts.Act.TheVariants.{DropAwaiter, WakeAwaiter, EndCall, BeginNotify, MissNotify, EndNotify}
 use Rattle.task_laws.specs.Table.{notifies, first_look, after_storing}
 use Rattle.task_steps.specs.declared.table.Slot.{Slot}
+use Rattle.task_steps.specs.declared.stored.StoredAwaiter.{StoredAwaiter}
 use Rattle.task_steps.specs.declared.table.Deed.{Deed}
 use Rattle.task_cell.specs.declared.cell.Party.{Party}
 use Rattle.task_steps.specs.Values.{Values}
@@ -118,7 +119,7 @@ module _ {F T A : Type 0} where
 
   -- the awaiter slot is taken, unless there is a notifier
   pub data BeginsRegister (p q : Party F T A) : Bool → Type 0 where
-    begins : (w : State) (hand : Option ℕ) (y : Option A) → w.notifying ≡ false → SlotWaits hand y
+    begins : (w : State) (hand : Option ℕ) (y : Option (StoredAwaiter A)) → w.notifying ≡ false → SlotWaits hand y
         → DidWith (act CloneAwaiter ∷ row BeginRegister w ∷ act StoreAwaiter ∷ []) (after_storing (poll_number (position p)) hand)
         (awaiter_first y []) p q → BeginsRegister p q true
     finds_one : (w : State) → w.notifying ≡ true

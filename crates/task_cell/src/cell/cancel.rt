@@ -7,6 +7,7 @@ ghost use Rattle.task_laws.specs.declared.positions.Position.TheVariants.{CallEn
 ghost use Rattle.task_laws.specs.declared.positions.Rest.{Rest};
 ghost use Rattle.task_core.specs.declared.acts.Act.TheVariants.{EndCall};
 ghost use Rattle.task_steps.specs.declared.table.Deed.{Deed};
+ghost use Rattle.task_cell.specs.Woken.{WokeStored};
 ghost use Rattle.task_cell.specs.TaskPaths.{Cancels, Notice, CancelPath};
 ghost use Rattle.task_cell.specs.Handed.{HandedOver};
 ghost use Rattle.task_cell.specs.Calls.{Stands, Did, first, position, limit_of};
@@ -38,7 +39,7 @@ impl<R: Wait + Drop + Copy, F: Yields, Q: Drop, M: Drop, A: Wake, B: Allocator +
         Q: Schedule<Runnable<R, F, Q, M, A, X, B>>,
         requires cell { IsOf self.now party.old × (limit_of party.old ≡ limit_in self.now) }
         requires party { (n : ℕ) × Stands (as_task n) party.old }
-        ensures path { (path : List Deed) × CancelPath (HandedOver Q.scheduled (cell_of self.now) around false) ((a : A) × (r : A.Record) × A.woken a r) path × Did path (position party.old) party.old party.new }
+        ensures path { (path : List Deed) × CancelPath (HandedOver Q.scheduled (cell_of self.now) around false) (WokeStored A.woken) path × Did path (position party.old) party.old party.new }
     {
         let Some(closed) = self.close_task(party) else {
             return;
@@ -75,7 +76,7 @@ impl<R: Wait + Drop + Copy, F: Yields, Q: Drop, M: Drop, A: Wake, B: Allocator +
     fn leave_closed(&self, party: &mut Party<F, Kept<F>, A>, due: bool)
         requires cell { IsOf self.now party.old }
         requires party { (n : ℕ) × Stands (notifies due (OfCancel n)) party.old }
-        ensures { (n : ℕ) → Stands (notifies due (OfCancel n)) party.old → (path : List Deed) × Notice ((a : A) × (r : A.Record) × A.woken a r) due path × Did (path ++ act EndCall ∷ []) (as_task n) party.old party.new }
+        ensures { (n : ℕ) → Stands (notifies due (OfCancel n)) party.old → (path : List Deed) × Notice (WokeStored A.woken) due path × Did (path ++ act EndCall ∷ []) (as_task n) party.old party.new }
     {
         let awaiter = self.take_due(party, due);
         let ledger = self.ledger();

@@ -5,6 +5,7 @@ ghost use Rattle.task_core.specs.declared.acts.Act.TheVariants.{DropFuture};
 ghost use Rattle.task_laws.specs.declared.positions.WithoutPoll.TheVariants.{DroppedRunnable};
 ghost use Rattle.task_steps.specs.declared.table.Slot.{Slot};
 ghost use Rattle.task_steps.specs.declared.table.Deed.{Deed};
+ghost use Rattle.task_cell.specs.Woken.{WokeStored};
 ghost use Rattle.task_cell.specs.Calls.{Stands, DidWith};
 ghost use Rattle.task_steps.specs.Deeds.{act};
 ghost use Rattle.task_steps.specs.Standing.{as_runnable};
@@ -37,7 +38,7 @@ impl<R: Drop, F: Yields, Q: Drop, M: Drop, A: Wake, B: Allocator + Copy> Share<R
     pub(crate) fn discard_runnable(self, party: &mut Party<F, Kept<F>, A>)
         requires cell { IsOf self party.old }
         requires party { Stands as_runnable party.old }
-        ensures { Discards ((a : A) × (r : A.Record) × A.woken a r) party.old party.new }
+        ensures { Discards (WokeStored A.woken) party.old party.new }
     {
         self.discard_start(party);
         self.take(party).discard();

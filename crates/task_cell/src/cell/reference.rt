@@ -10,6 +10,7 @@ ghost use Rattle.task_laws.specs.Table.{after_giving_up, notifies};
 ghost use Rattle.task_laws.specs.declared.positions.NotifyingCall.TheVariants.{OfRun};
 ghost use Rattle.task_steps.specs.declared.table.Slot.{Slot};
 ghost use Rattle.task_steps.specs.declared.table.Slot.TheVariants.{Empty};
+ghost use Rattle.task_cell.specs.Woken.{WokeStored};
 ghost use Rattle.task_cell.specs.Calls.{Stands, StandsWith, Did, DidWith};
 ghost use Rattle.task_steps.specs.Deeds.{act};
 ghost use Rattle.task_cell.specs.RunCalls.{GivesUp, Releases, Rests};
@@ -41,8 +42,8 @@ impl<R: Drop, F: Yields, Q: Drop, M: Drop, A: Drop, B: Allocator + Copy> Share<R
     /// Drops the awaiter in its place, which the party has in front, if one is there, and leaves none.
     pub fn clear_awaiter(&self, party: &mut Party<F, Kept<F>, A>)
         requires cell { IsOf self.now party.old }
-        requires party { (at : Position) × (y : Option A) × (held : List (ℕ × TaskPlace F _ A)) × StandsWith at (awaiter_first y held) party.old }
-        ensures { (at : Position) (y : Option A) (held : List (ℕ × TaskPlace F _ A)) → StandsWith at (awaiter_first y held) party.old → DidWith [] at (awaiter_first None held) party.old party.new }
+        requires party { (at : Position) × (y : Option _) × (held : List (ℕ × TaskPlace F _ A)) × StandsWith at (awaiter_first y held) party.old }
+        ensures { (at : Position) (y : Option _) (held : List (ℕ × TaskPlace F _ A)) → StandsWith at (awaiter_first y held) party.old → DidWith [] at (awaiter_first None held) party.old party.new }
     {
         if let Some(awaiter) = take_awaiter(&self.block, &mut party.seat) {
             awaiter.discard();
@@ -63,8 +64,8 @@ impl<R: Drop, F: Yields, Q: Drop, M: Drop, A: Drop, B: Allocator + Copy> Share<R
     /// Empties the place of the awaiter, as the last party, and gives it back by a load. Then its share ends, and the cell with it, unless a schedule call holds it: whether it has. The party goes on in its call: to the awaiter in hand, or to the end.
     pub fn empty(self, party: &mut Party<F, Kept<F>, A>) -> (Ledger<R, F, Q, M, A, B>, bool)
         requires cell { IsOf self party.old }
-        requires party { (hand : Option ℕ) × (answer : Answer) × (y : Option A) × StandsWith (Emptier hand answer) (awaiter_first y []) party.old }
-        ensures path { (hand : Option ℕ) (answer : Answer) (y : Option A) → StandsWith (Emptier hand answer) (awaiter_first y []) party.old → Did (act EmptySlots ∷ []) (after_giving_up hand answer) party.old party.new }
+        requires party { (hand : Option ℕ) × (answer : Answer) × (y : Option _) × StandsWith (Emptier hand answer) (awaiter_first y []) party.old }
+        ensures path { (hand : Option ℕ) (answer : Answer) (y : Option _) → StandsWith (Emptier hand answer) (awaiter_first y []) party.old → Did (act EmptySlots ∷ []) (after_giving_up hand answer) party.old party.new }
         ensures ledger { IsBeside result.0 party.new }
     {
         self.clear_awaiter(party);
@@ -77,7 +78,7 @@ impl<R: Drop, F: Yields, Q: Drop, M: Drop, A: Drop, B: Allocator + Copy> Share<R
     // The last handle empties the places, and its call ends.
     pub(crate) fn empty_at_end(self, party: &mut Party<F, Kept<F>, A>)
         requires cell { IsOf self party.old }
-        requires party { (y : Option A) × StandsWith (Emptier None Nothing) (awaiter_first y []) party.old }
+        requires party { (y : Option _) × StandsWith (Emptier None Nothing) (awaiter_first y []) party.old }
         ensures { Did (act EmptySlots ∷ act EndCall ∷ []) as_ended party.old party.new }
     {
         let (ledger, _) = self.empty(party);
@@ -112,7 +113,7 @@ impl<R: Wait + Drop + Copy, F: Yields, Q: Drop, M: Drop, A: Wake, B: Allocator +
     pub(crate) fn finish(self, party: &mut Party<F, Kept<F>, A>, due: bool)
         requires cell { IsOf self party.old }
         requires party { Stands (notifies due OfRun) party.old }
-        ensures { Rests ((a : A) × (r : A.Record) × A.woken a r) due party.old party.new }
+        ensures { Rests (WokeStored A.woken) due party.old party.new }
     {
         let awaiter = self.take_due(party, due);
         let ledger = self.release(party);

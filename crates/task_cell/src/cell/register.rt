@@ -6,6 +6,7 @@ ghost use Rattle.task_core.specs.declared.acts.Act.TheVariants.{EndRegisterNotif
 ghost use Rattle.task_laws.specs.Table.{after_storing};
 ghost use Rattle.task_steps.specs.declared.table.Deed.{Deed};
 ghost use Rattle.task_steps.specs.Rule.{Waits};
+ghost use Rattle.task_steps.specs.Stored.{stored_by};
 ghost use Rattle.task_cell.specs.PollPaths.{RegisterPath, Registers, BeginsRegister, EndsRegister, dropped_if};
 ghost use Rattle.task_cell.specs.Stores.{PutsClone};
 ghost use Rattle.task_steps.specs.Standing.{poll_number, as_task};
@@ -24,7 +25,7 @@ use task_core::{Wake, Yields};
 use task_steps::common::{Dropping, Waking};
 use task_steps::places::{Held, put_awaiter, take_awaiter};
 use task_steps::poll::{BeginningRegister, EndingNotified, EndingRegister, Refusing};
-use task_steps::table::Kept;
+use task_steps::table::{Kept, StoredAwaiter};
 
 impl<R: Drop, F: Yields, Q: Drop, M: Drop, A: Drop, B: Allocator + Copy> Share<R, F, Q, M, A, B> {
     /// Writes down that the clone was refused, and that the poll ends so. It is no step.
@@ -55,10 +56,10 @@ impl<R: Drop, F: Yields, Q: Drop, M: Drop, A: Drop, B: Allocator + Copy> Share<R
     }
 
     /// Puts the clone into the awaiter slot: the older awaiter that stood there, if one did.
-    pub fn put_clone(&self, party: &mut Party<F, Kept<F>, A>, clone: Held<A>) -> Option<Held<A>>
+    pub fn put_clone(&self, party: &mut Party<F, Kept<F>, A>, clone: Held<StoredAwaiter<A>>) -> Option<Held<StoredAwaiter<A>>>
         requires cell { IsOf self.now party.old }
-        requires party { (i : ℕ) × (hand : Option ℕ) × (y : Option A) × StandsWith (after_storing i hand) (awaiter_first y []) party.old × Waits hand y }
-        ensures { (i : ℕ) (hand : Option ℕ) (y : Option A) → StandsWith (after_storing i hand) (awaiter_first y []) party.old → Waits hand y → PutsClone i hand clone.value party.old party.new result }
+        requires party { (i : ℕ) × (hand : Option ℕ) × (y : Option _) × StandsWith (after_storing i hand) (awaiter_first y []) party.old × Waits hand y }
+        ensures { (i : ℕ) (hand : Option ℕ) (y : Option _) → StandsWith (after_storing i hand) (awaiter_first y []) party.old → Waits hand y → PutsClone i hand clone.value party.old party.new result }
     {
         put_awaiter(&self.block, &mut party.seat, clone)
     }
@@ -66,16 +67,16 @@ impl<R: Drop, F: Yields, Q: Drop, M: Drop, A: Drop, B: Allocator + Copy> Share<R
     /// Writes down that the older awaiter is dropped. It is no step.
     pub fn note_old_dropped(&self, party: &mut Party<F, Kept<F>, A>)
         requires cell { IsOf self.now party.old }
-        requires party { (i : ℕ) × (old : ℕ) × (clone : A) × StandsWith (OldAwaiterInHand i old) (awaiter_first (Some clone) []) party.old }
+        requires party { (i : ℕ) × (old : ℕ) × (clone : _) × StandsWith (OldAwaiterInHand i old) (awaiter_first (Some clone) []) party.old }
         ensures { DidWith (act DropAwaiter ∷ []) (Registered (poll_number (position party.old))) (places_of party.old) party.old party.new }
     {
         self.ledger().note::<Dropping>(party);
     }
 
     // Puts the clone into the awaiter slot, and drops what stood there.
-    fn store(&self, party: &mut Party<F, Kept<F>, A>, clone: Held<A>)
+    fn store(&self, party: &mut Party<F, Kept<F>, A>, clone: Held<StoredAwaiter<A>>)
         requires cell { IsOf self.now party.old }
-        requires party { (i : ℕ) × (hand : Option ℕ) × (y : Option A) × StandsWith (after_storing i hand) (awaiter_first y []) party.old × Waits hand y }
+        requires party { (i : ℕ) × (hand : Option ℕ) × (y : Option _) × StandsWith (after_storing i hand) (awaiter_first y []) party.old × Waits hand y }
         ensures { (stood : Bool) × DidWith (dropped_if stood) (Registered (poll_number (position party.old))) (awaiter_first (Some clone.value) []) party.old party.new }
     {
         if let Some(old) = self.put_clone(party, clone) {
@@ -85,9 +86,9 @@ impl<R: Drop, F: Yields, Q: Drop, M: Drop, A: Drop, B: Allocator + Copy> Share<R
     }
 
     /// Takes the clone out again, since a notifier came, and gives the awaiter slot back: a single fetch, never tried again. A notifier stays while the slot is the Task's.
-    pub fn take_back(&self, party: &mut Party<F, Kept<F>, A>) -> Held<A>
+    pub fn take_back(&self, party: &mut Party<F, Kept<F>, A>) -> Held<StoredAwaiter<A>>
         requires cell { IsOf self.now party.old }
-        requires party { (i : ℕ) × (clone : A) × StandsWith (TookBack i) (awaiter_first (Some clone) []) party.old }
+        requires party { (i : ℕ) × (clone : _) × StandsWith (TookBack i) (awaiter_first (Some clone) []) party.old }
         ensures same { places_of party.old ≡ awaiter_first (Some result.value) [] }
         ensures path { (v : State) × (v.notifying ≡ true) × Did (row EndRegisterNotified v ∷ []) (CloneInHand (poll_number (position party.old))) party.old party.new }
     {
@@ -113,7 +114,7 @@ impl<R: Drop, F: Yields, Q: Drop, M: Drop, A: Drop, B: Allocator + Copy> Share<R
     /// Gives the awaiter slot back with the clone in it, by at most 2^64 - 1 tries, and answers whether it did: where there is a notifier, the clone is to be taken out again. `None` where each try has missed.
     pub fn end_register_some(&self, party: &mut Party<F, Kept<F>, A>) -> Option<bool>
         requires cell { IsOf self.now party.old }
-        requires party { (i : ℕ) × (clone : A) × StandsWith (Registered i) (awaiter_first (Some clone) []) party.old }
+        requires party { (i : ℕ) × (clone : _) × StandsWith (Registered i) (awaiter_first (Some clone) []) party.old × (stored_by clone ≡ i) }
         ensures path { IfSome result (λ ended. EndsRegister party.old party.new ended) }
         ensures missed { IfNone result (HasMissed (2 ^ 64 - 1) party.new.seat.me) }
     {
@@ -147,7 +148,7 @@ impl<R: Wait + Drop + Copy, F: Yields, Q: Drop, M: Drop, A: Wake, B: Allocator +
     // Gives the awaiter slot back with the clone in it, and answers whether it did: where there is a notifier, the clone is to be taken out again.
     fn end_register(&self, party: &mut Party<F, Kept<F>, A>) -> bool
         requires cell { IsOf self.now party.old }
-        requires party { (i : ℕ) × (clone : A) × StandsWith (Registered i) (awaiter_first (Some clone) []) party.old }
+        requires party { (i : ℕ) × (clone : _) × StandsWith (Registered i) (awaiter_first (Some clone) []) party.old × (stored_by clone ≡ i) }
         ensures { EndsRegister party.old party.new result }
     {
         match self.change::<EndingRegister>(party) {
@@ -162,11 +163,12 @@ impl<R: Wait + Drop + Copy, F: Yields, Q: Drop, M: Drop, A: Wake, B: Allocator +
         party: &mut Party<F, Kept<F>, A>,
         awaiter: &LentAwaiter<'_, A>,
         once: OneWake,
-        clone: Held<A>,
+        clone: Held<StoredAwaiter<A>>,
     )
         requires cell { IsOf self.now party.old }
         requires party { (i : ℕ) × Stands (Registrar i) party.old }
-        requires cloned { A.cloned awaiter.now.awaiter.now (Ok clone.value) }
+        requires cloned { A.cloned awaiter.now.awaiter.now (Ok clone.value.awaiter) }
+        requires number { stored_by clone.value ≡ poll_number (position party.old) }
         ensures { (path : List Deed) × RegisterPath A.cloned A.woken A.woken_by_ref awaiter.now.awaiter.now path × Did path (Looking (poll_number (position party.old))) party.old party.new }
     {
         if !self.begin_register(party) {
@@ -194,7 +196,7 @@ impl<R: Wait + Drop + Copy, F: Yields, Q: Drop, M: Drop, A: Wake, B: Allocator +
         requires party { (i : ℕ) × Stands (Registrar i) party.old }
         ensures { Registers A.cloned A.woken A.woken_by_ref awaiter.now.awaiter.now party.old party.new result }
     {
-        match awaiter.try_clone() {
+        match awaiter.try_clone(party) {
             Ok(clone) => {
                 self.register_clone(party, awaiter, once, clone);
                 true

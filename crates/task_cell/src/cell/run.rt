@@ -8,6 +8,7 @@ ghost use Rattle.task_core.specs.declared.acts.Act.TheVariants.{AnswerReady, Dro
 ghost use Rattle.task_laws.specs.Table.{notifies};
 ghost use Rattle.task_steps.specs.declared.table.Slot.{Slot};
 ghost use Rattle.task_steps.specs.declared.table.Slot.TheVariants.{Empty};
+ghost use Rattle.task_cell.specs.Woken.{WokeStored};
 ghost use Rattle.task_cell.specs.Handed.{HandedOver};
 ghost use Rattle.task_cell.specs.Calls.{StandsWith, Did, DidWith, position, limit_of};
 ghost use Rattle.task_steps.specs.Deeds.{row, act};
@@ -77,7 +78,7 @@ impl<R: Wait + Drop + Copy, F: Yields, Q: Drop, M: Drop, A: Wake, B: Allocator +
     pub(crate) fn close_run(self, party: &mut Party<F, Kept<F>, A>)
         requires cell { IsOf self party.old }
         requires party { (y : Slot F _) × StandsWith (FutureGone ClosedRun) (work_first y []) party.old }
-        ensures { Closes ((a : A) × (r : A.Record) × A.woken a r) party.old party.new }
+        ensures { Closes (WokeStored A.woken) party.old party.new }
     {
         self.take(party).discard();
         let found = self.unschedule(party);
@@ -88,7 +89,7 @@ impl<R: Wait + Drop + Copy, F: Yields, Q: Drop, M: Drop, A: Wake, B: Allocator +
     pub(crate) fn finish_cleared(self, party: &mut Party<F, Kept<F>, A>)
         requires cell { IsOf self party.old }
         requires party { (y : Slot F _) × StandsWith PendingFutureDropped (work_first y []) party.old }
-        ensures { ClosesPending ((a : A) × (r : A.Record) × A.woken a r) party.old party.new }
+        ensures { ClosesPending (WokeStored A.woken) party.old party.new }
     {
         let found = self.end_closed(party);
         self.finish(party, found.awaiter());
@@ -108,7 +109,7 @@ impl<R: Wait + Drop + Copy, F: Yields, Q: Drop, M: Drop, A: Wake, B: Allocator +
         requires cell { IsOf self party.old }
         requires party { (y : Slot F _) × StandsWith ReadyFutureDropped (work_first y []) party.old }
         requires yielded { HasYielded self output.value.output }
-        ensures { (p : _) (y : Slot F _) → DidWith (act AnswerReady ∷ act DropFuture ∷ []) ReadyFutureDropped (work_first y []) p party.old → EndsReady ((a : A) × (r : A.Record) × A.woken a r) p party.new }
+        ensures { (p : _) (y : Slot F _) → DidWith (act AnswerReady ∷ act DropFuture ∷ []) ReadyFutureDropped (work_first y []) p party.old → EndsReady (WokeStored A.woken) p party.new }
     {
         self.take(party).discard();
         let found = self.store_output(party, output);
@@ -127,7 +128,7 @@ impl<R: Wait + Drop + Copy, F: Yields, Q: Drop, M: Drop, A: Wake, B: Allocator +
         requires cell { IsOf self party.old × (limit_of party.old ≡ limit_in self) }
         requires room { HasRoom found }
         requires party { (p : _) × (y : Slot F _) × AnswersPending (work_first y []) p party.old found.closed × IsFuture (values_in self) y }
-        ensures { (p : _) (y : Slot F _) → AnswersPending (work_first y []) p party.old found.closed → EndsUnready ((a : A) × (r : A.Record) × A.woken a r) (HandedOver Q.scheduled (cell_of self) around) result p party.new }
+        ensures { (p : _) (y : Slot F _) → AnswersPending (work_first y []) p party.old found.closed → EndsUnready (WokeStored A.woken) (HandedOver Q.scheduled (cell_of self) around) result p party.new }
     {
         if found.closed() {
             self.finish_cleared(party);

@@ -13,7 +13,7 @@ use super::{Cell, MaybeShare, Party, Share};
 use counted_block::Inner;
 use std::alloc::Allocator;
 use task_core::Yields;
-use task_steps::table::{Kept, Slot};
+use task_steps::table::{Kept, Slot, StoredAwaiter};
 
 impl<R, F: Yields, Q, M, A, B: Allocator + Copy> Share<R, F, Q, M, A, B> {
     /// What all handles of the task see.
@@ -70,7 +70,7 @@ impl<R: Drop, F: Yields, Q: Drop, M: Drop, A: Drop, B: Allocator + Copy> Share<R
     fn end_block(
         self,
         party: &mut Party<F, Kept<F>, A>,
-    ) -> Option<Inner<Slot<F, Kept<F>>, Option<A>, Cell<R, Q, M, B>>>
+    ) -> Option<Inner<Slot<F, Kept<F>>, Option<StoredAwaiter<A>>, Cell<R, Q, M, B>>>
         requires cell { IsOf self party.old }
         requires party { (at : Position) × StandsWith at [] party.old }
         requires last { has_emptied (deeds party.old) ≡ true }

@@ -7,6 +7,7 @@ ghost use Rattle.task_steps.specs.declared.table.Deed.{Deed};
 ghost use Rattle.task_steps.specs.declared.table.Slot.{Slot};
 ghost use Rattle.task_steps.specs.Rule.{IsFuture};
 ghost use Rattle.task_steps.specs.Steps.{work_first};
+ghost use Rattle.task_cell.specs.Woken.{WokeStored};
 ghost use Rattle.task_cell.specs.Handed.{HandedOver, PolledOnce};
 ghost use Rattle.task_cell.specs.Calls.{Stands, StandsWith, Did, DidWith, limit_of};
 ghost use Rattle.task_core.specs.declared.acts.Act.TheVariants.{AnswerReady, DropFuture};
@@ -46,7 +47,7 @@ impl<R: Wait + Drop + Copy, F: Yields, Q: Drop, M: Drop, A: Wake, B: Allocator +
         Q: Schedule<Runnable<R, F, Q, M, A, X, B>>,
         requires cell { IsOf self party × (limit_of party ≡ limit_in self) }
         requires party { Stands as_runnable party }
-        ensures path { (path : List Deed) × RunPath (PolledOnce F.polled (spawned_in self) (cell_of self) around) ((a : A) × (r : A.Record) × A.woken a r) (HandedOver Q.scheduled (cell_of self) around) result.1 path × Did path as_ended party result.0 }
+        ensures path { (path : List Deed) × RunPath (PolledOnce F.polled (spawned_in self) (cell_of self) around) (WokeStored A.woken) (HandedOver Q.scheduled (cell_of self) around) result.1 path × Did path as_ended party result.0 }
     {
         let (party, started) = self.begin_run(party);
         if !started {
@@ -84,7 +85,7 @@ impl<R: Wait + Drop + Copy, F: Yields, Q: Drop, M: Drop, A: Wake, B: Allocator +
     fn end_closed_run(self, mut party: Party<F, Kept<F>, A>) -> Party<F, Kept<F>, A>
         requires cell { IsOf self party }
         requires party { (y : Slot F _) × StandsWith (FutureGone ClosedRun) (work_first y []) party }
-        ensures { Closes ((a : A) × (r : A.Record) × A.woken a r) party result }
+        ensures { Closes (WokeStored A.woken) party result }
     {
         self.close_run(&mut party);
         party
@@ -98,7 +99,7 @@ impl<R: Wait + Drop + Copy, F: Yields, Q: Drop, M: Drop, A: Wake, B: Allocator +
         requires cell { IsOf self party }
         requires party { (y : Slot F _) × StandsWith ReadyFutureDropped (work_first y []) party }
         requires yielded { HasYielded self output.value.output }
-        ensures { (p : _) (y : Slot F _) → DidWith (act AnswerReady ∷ act DropFuture ∷ []) ReadyFutureDropped (work_first y []) p party → EndsReady ((a : A) × (r : A.Record) × A.woken a r) p result }
+        ensures { (p : _) (y : Slot F _) → DidWith (act AnswerReady ∷ act DropFuture ∷ []) ReadyFutureDropped (work_first y []) p party → EndsReady (WokeStored A.woken) p result }
     {
         self.finish_ready(&mut party, output);
         party
@@ -115,7 +116,7 @@ impl<R: Wait + Drop + Copy, F: Yields, Q: Drop, M: Drop, A: Wake, B: Allocator +
         requires cell { IsOf self party × (limit_of party ≡ limit_in self) }
         requires room { HasRoom found }
         requires party { (p : _) × (y : Slot F _) × AnswersPending (work_first y []) p party found.closed × IsFuture (values_in self) y }
-        ensures { (p : _) (y : Slot F _) → AnswersPending (work_first y []) p party found.closed → EndsUnready ((a : A) × (r : A.Record) × A.woken a r) (HandedOver Q.scheduled (cell_of self) around) result.1 p result.0 }
+        ensures { (p : _) (y : Slot F _) → AnswersPending (work_first y []) p party found.closed → EndsUnready (WokeStored A.woken) (HandedOver Q.scheduled (cell_of self) around) result.1 p result.0 }
     {
         let woken = self.finish_pending(&mut party, found, around);
         (party, woken)

@@ -1,6 +1,7 @@
 //! The calls of a Runnable.
 ghost use Rattle.std.specs.Prelude.{◌≡◌, IfOk, IfErr, List, [], true, false};
 ghost use Rattle.task_steps.specs.declared.table.Deed.{Deed};
+ghost use Rattle.task_cell.specs.Woken.{WokeStored};
 ghost use Rattle.task_cell.specs.Handed.{HandedOver, PolledOnce};
 ghost use Rattle.task_cell.specs.RunCalls.{Discards};
 ghost use Rattle.task_cell.specs.RunPaths.{RunPath};
@@ -70,7 +71,7 @@ impl<
 
     /// Does what a drop does: the task is closed, its future is dropped, and an awaiter that waits is woken.
     pub fn discard(self) -> EndedCall<F, Kept<F>, A>
-        ensures path { Discards ((a : A) × (r : A.Record) × A.woken a r) self.inner.party result.party }
+        ensures path { Discards (WokeStored A.woken) self.inner.party result.party }
     {
         let (inner, _) = self.into_parts();
         let (share, mut party) = inner.into_party();
@@ -113,7 +114,7 @@ impl<
     where
         F: Future<TaskWaker<R, F, Q, M, A, X, B>>,
         Q: Schedule<Runnable<R, F, Q, M, A, X, B>>,
-        ensures path { (path : List Deed) × RunPath (PolledOnce F.polled (spawned_in self.inner.share) (cell_of self.inner.share) self.around) ((a : A) × (r : A.Record) × A.woken a r) (HandedOver Q.scheduled (cell_of self.inner.share) self.around) result.0 path × Did path as_ended self.inner.party result.1.party }
+        ensures path { (path : List Deed) × RunPath (PolledOnce F.polled (spawned_in self.inner.share) (cell_of self.inner.share) self.around) (WokeStored A.woken) (HandedOver Q.scheduled (cell_of self.inner.share) self.around) result.0 path × Did path as_ended self.inner.party result.1.party }
     {
         let (inner, around) = self.into_parts();
         let (share, party) = inner.into_party();

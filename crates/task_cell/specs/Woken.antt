@@ -1,0 +1,6 @@
+-- Which awaiter a call has woken.
+use Rattle.task_steps.specs.declared.stored.StoredAwaiter.{StoredAwaiter}
+
+-- an awaiter was woken that a poll has stored: its type says which poll that was, and which awaiter it was lent
+abbrev pub WokeStored : {A K : Type 0} → (A → K → Type 0) → Type 0
+WokeStored {A} {K} woken = (stored : StoredAwaiter A) × (told : K) × woken stored.awaiter told
