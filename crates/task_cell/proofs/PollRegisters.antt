@@ -1,4 +1,5 @@
 -- The paths of a registering, put together from those of its parts.
+use Rattle.task_steps.specs.declared.stored.StoredAwaiter.{StoredAwaiter}
 use Rattle.task_cell.proofs.Vocabulary.{◌≡◌, ℕ, Bool, true, false, Option, Some, None, List, [], ◌∷◌, ◌++◌, refl, subst, State, Looking, UnusedClone, Registered, TookBack, CloneInHand, CloneAwaiter}
 use Rattle.task_cell.proofs.Vocabulary.{StoreAwaiter, TakeAwaiter, FindNotify, BeginRegister, EndRegister, EndRegisterNotified, DropAwaiter, WakeAwaiter, after_storing, Deed, Party}
 use Rattle.task_cell.proofs.Vocabulary.{Waits, position, places_of, StandsWith, DidWith, Did, row, act, RegisterPath, dropped_if, BeginsRegister, begins, finds_one, EndsRegister, ends, finds_notified}
@@ -18,7 +19,7 @@ number_after n (Some old) = refl
 module _ {F T A : Type 0} where
   -- what a Task comes to that would take the slot, and that would give it back
   abbrev pub Begun : Party F T A → Party F T A → Bool → Type 0
-  Begun p q true = (w : State) × (hand : Option ℕ) × (y : Option A) × (w.notifying ≡ false) × Waits hand y × DidWith (stored w) (after_storing (poll_number (position p)) hand) (awaiter_first y []) p q
+  Begun p q true = (w : State) × (hand : Option ℕ) × (y : Option (StoredAwaiter A)) × (w.notifying ≡ false) × Waits hand y × DidWith (stored w) (after_storing (poll_number (position p)) hand) (awaiter_first y []) p q
   Begun p q false = (w : State) × (w.notifying ≡ true) × Did (act CloneAwaiter ∷ row FindNotify w ∷ []) (UnusedClone (poll_number (position p))) p q
 
   begun_by : (p q : Party F T A) (b : Bool) → BeginsRegister p q b → Begun p q b
@@ -46,17 +47,17 @@ module _ {F T A : Type 0} where
       (then_goes p q r (stored w) (dropped_if stood) (after_storing n hand) held held' (λ x. Registered (poll_number x)) g h)
 
   -- the clone was put in
-  abbrev pub HasStored : A → Party F T A → Party F T A → Type 0
+  abbrev pub HasStored : StoredAwaiter A → Party F T A → Party F T A → Type 0
   HasStored clone p q = (w : State) × (stood : Bool) × (w.notifying ≡ false) × DidWith (stored w ++ dropped_if stood) (Registered (poll_number (position p))) (awaiter_first (Some clone) []) p q
 
-  pub stores_clone : (p q r : Party F T A) (b : Bool) (clone : A) → BeginsRegister p q b → b ≡ true → (stood : Bool) × DidWith (dropped_if stood) (Registered (poll_number (position q))) (awaiter_first (Some clone) []) q r → HasStored clone p r
+  pub stores_clone : (p q r : Party F T A) (b : Bool) (clone : StoredAwaiter A) → BeginsRegister p q b → b ≡ true → (stood : Bool) × DidWith (dropped_if stood) (Registered (poll_number (position q))) (awaiter_first (Some clone) []) q r → HasStored clone p r
   stores_clone p q r b clone f e s = let x = has_begun p q b true f e in (x.0, s.0, x.3, is_stored p q r x.0 s.0 x.1 (poll_number (position p)) (awaiter_first x.2 []) (awaiter_first (Some clone) []) x.5 s.1)
 
   -- .. and taken back, where a notifier came meanwhile
-  abbrev pub TakenBack : A → Party F T A → Party F T A → Type 0
+  abbrev pub TakenBack : StoredAwaiter A → Party F T A → Party F T A → Type 0
   TakenBack clone p q = (w : State) × (stood : Bool) × (w.notifying ≡ false) × DidWith ((stored w ++ dropped_if stood) ++ (act TakeAwaiter ∷ [])) (TookBack (poll_number (position p))) (awaiter_first (Some clone) []) p q
 
-  pub takes_back : (p r t : Party F T A) (b : Bool) (clone : A) → HasStored clone p r → EndsRegister r t b → b ≡ false → TakenBack clone p t
+  pub takes_back : (p r t : Party F T A) (b : Bool) (clone : StoredAwaiter A) → HasStored clone p r → EndsRegister r t b → b ≡ false → TakenBack clone p t
   takes_back p r t b clone x f e = let a : List Deed = stored x.0 ++ dropped_if x.1 in let n : ℕ = poll_number (position p) in let held : List (ℕ × TaskPlace F T A) = awaiter_first (Some clone) [] in (
     x.0,
     x.1,
@@ -66,7 +67,7 @@ module _ {F T A : Type 0} where
   )
 
   -- the clone that is taken out is the one that was put in
-  pub same_clone : (p : Party F T A) (n : ℕ) (a b : A) → StandsWith (TookBack n) (awaiter_first (Some a) []) p → places_of p ≡ awaiter_first (Some b) [] → b ≡ a
+  pub same_clone : (p : Party F T A) (n : ℕ) (a b : StoredAwaiter A) → StandsWith (TookBack n) (awaiter_first (Some a) []) p → places_of p ≡ awaiter_first (Some b) [] → b ≡ a
   same_clone p n a b s e = let same = same_first (places_of p) [] [] 1 (Second (Some a)) (Second (Some b)) (held_is p (TookBack n) (awaiter_first (Some a) []) s) e in cc
 
   module _ {K : Type 0} (cloned : A → Result A K → Type 0) (woken woken_by_ref : A → K → Type 0) (awaiter : A) where

@@ -7,7 +7,7 @@ ghost use Rattle.task_steps.specs.declared.table.Slot.{Slot};
 ghost use Rattle.task_steps.specs.Seats.{is_spent};
 
 pub use crate::kept::Kept;
-pub use crate::stored::StoredAwaiter;
+pub use crate::stored::{AwaiterClone, StoredAwaiter};
 use counted_block::{Bare, BlockRule, Hold, Inner, Ledger, MaybeShare, Place, Seat, Share};
 use std::alloc::{AllocFailed, Allocator};
 use std::collections::LinkedList;

@@ -1,3 +1,4 @@
+use Rattle.task_cell.specs.Woken.{WokeStored}
 use Rattle.task_cell.proofs.Vocabulary.{◌∙◌, sym, subst, ◌∷◌, [], OfRun, ClosedRun, FutureGone, Unschedule, notifies, Empty, Stands, row, Rests, work_first}
 use Rattle.task_cell.proofs.Moved.{stands}
 use Rattle.task_cell.proofs.RunRest.{unscheduled, close_rest}
@@ -19,4 +20,4 @@ finish-requires-clause-party g c = let s = c.requires.party in let x = c.take.en
 
 pub returns : goal.returns
 returns g c = let s = c.requires.party in let x = c.take.ensures (FutureGone ClosedRun) s.0 [] s.1 in let w = c.unschedule-found.result in
-    let h = unscheduled ClosedRun w (work_first Empty []) c.args.party.now c.take.new.party c.unschedule-found.new.party x c.unschedule-found.ensures in close_rest _ w c.args.party.now c.unschedule-found.new.party c.finish.new.party h (subst (λ b. Rests ((a : g.row.A.Denot) × (r : g.row.A-Record.Denot) × g.A.Wake.woken a r) b c.unschedule-found.new.party c.finish.new.party) c.awaiter.ensures c.finish.ensures)
+    let h = unscheduled ClosedRun w (work_first Empty []) c.args.party.now c.take.new.party c.unschedule-found.new.party x c.unschedule-found.ensures in close_rest _ w c.args.party.now c.unschedule-found.new.party c.finish.new.party h (subst (λ b. Rests (WokeStored g.A.Wake.woken) b c.unschedule-found.new.party c.finish.new.party) c.awaiter.ensures c.finish.ensures)

@@ -1,3 +1,4 @@
+use Rattle.task_cell.specs.Woken.{WokeStored}
 use Rattle.task_cell.proofs.Vocabulary.{◌∙◌, sym, subst, ◌∷◌, [], OfRun, EndClosed, notifies, Stands, row, Rests}
 use Rattle.task_cell.proofs.Moved.{stands}
 use Rattle.task_cell.proofs.RunEnds.{closes_rest}
@@ -12,4 +13,4 @@ finish-requires-clause-party g c = let w = c.end_closed-found.result in
 
 pub returns : goal.returns
 returns g c = closes_rest _ c.end_closed-found.result c.args.party.now c.end_closed-found.new.party c.finish.new.party c.end_closed-found.ensures
-    (subst (λ b. Rests ((a : g.row.A.Denot) × (r : g.row.A-Record.Denot) × g.A.Wake.woken a r) b c.end_closed-found.new.party c.finish.new.party) c.awaiter.ensures c.finish.ensures)
+    (subst (λ b. Rests (WokeStored g.A.Wake.woken) b c.end_closed-found.new.party c.finish.new.party) c.awaiter.ensures c.finish.ensures)

@@ -1,3 +1,4 @@
+use Rattle.task_cell.specs.Woken.{WokeStored}
 use Rattle.task_cell.proofs.Vocabulary.{◌∙◌, sym, subst, [], OfRun, ReadyFutureDropped, notifies, Empty, Stands, Rests, work_first}
 use Rattle.task_cell.proofs.Moved.{stands}
 use Rattle.task_cell.proofs.RunEnds.{ready_rest}
@@ -22,4 +23,4 @@ finish-requires-clause-party g c = let s = c.requires.party in let x = c.take.en
 
 pub returns : goal.returns
 returns g c = let s = c.requires.party in let x = c.take.ensures ReadyFutureDropped s.0 [] s.1 in let w = c.store_output-found.result in let h = c.store_output-found.ensures in
-    λ p y f. ready_rest _ w (work_first y []) (work_first Empty []) p c.args.party.now c.take.new.party c.store_output-found.new.party c.finish.new.party f x h (subst (λ b. Rests ((a : g.row.A.Denot) × (r : g.row.A-Record.Denot) × g.A.Wake.woken a r) b c.store_output-found.new.party c.finish.new.party) c.awaiter.ensures c.finish.ensures)
+    λ p y f. ready_rest _ w (work_first y []) (work_first Empty []) p c.args.party.now c.take.new.party c.store_output-found.new.party c.finish.new.party f x h (subst (λ b. Rests (WokeStored g.A.Wake.woken) b c.store_output-found.new.party c.finish.new.party) c.awaiter.ensures c.finish.ensures)

@@ -1,3 +1,4 @@
+use Rattle.task_cell.specs.Woken.{WokeStored}
 use Rattle.task_cell.proofs.Vocabulary.{◌∙◌, sym, ap, subst, EndsUnready, HandedOver, Future}
 use Rattle.task_cell.specs.Belongs.{cell_of}
 use Rattle.task_cell.proofs.Moved.{stands, limit_is}
@@ -68,6 +69,6 @@ pub returns-in-Pending : goal.returns-in-Pending
 returns-in-Pending g c = let s = started c.args.party c.begin_run-party.result.0 c.begin_run-party.result.1 c.begin_run-party.ensures c.if-not-started.false in let p = c.poll_future-share.ensures in
     record {
       path = run_pending _ _ _ c.args.party c.begin_run-party.result.0 c.end_pending_run.result.0 s c.poll_future-share.result.2 c.in-Pending.is c.end_pending_run.result.1 (p.once.0, p.once.1, p.once.5, p.once.6, p.once.4)
-          (subst (λ z. EndsUnready ((a : g.row.A.Denot) × (r : g.row.A-Record.Denot) × g.A.Wake.woken a r) (HandedOver g.Q.Schedule.scheduled z c.args.around) c.end_pending_run.result.1 c.begin_run-party.result.0 c.end_pending_run.result.0) (ap cell_of p.share)
+          (subst (λ z. EndsUnready (WokeStored g.A.Wake.woken) (HandedOver g.Q.Schedule.scheduled z c.args.around) c.end_pending_run.result.1 c.begin_run-party.result.0 c.end_pending_run.result.0) (ap cell_of p.share)
           (c.end_pending_run.ensures c.begin_run-party.result.0 (Future p.once.1) (noted_pending _ _ _ _ _ p.once.3 c.in-Pending.is).1));
     }
