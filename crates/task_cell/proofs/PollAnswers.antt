@@ -46,7 +46,7 @@ module _ {F T A : Type 0} where
   pub saw_end : (w : State) (p q : Party F T A) → SeesNoneAgain w p q → has_to_wait w ≡ false → (has_ended w ≡ true) × Did (row Look w ∷ []) (Notifier (OfPoll (poll_number (position p)))) p q
   saw_end w p q s f = ⊎_elim (λ x. never (sym f ∙ x.0)) (λ x. (x.1, x.2)) s
 
-  module _ {K : Type 0} (cloned : A → Result A K → Type 0) (woken woken_by_ref : A → K → Type 0) (compared : A → A → Bool → Type 0) (awaiter : A) where
+  module _ {B K : Type 0} (cloned : B → Result B K → Type 0) (woken woken_by_ref : B → K → Type 0) (compared : B → B → Bool → Type 0) (awaiter : B) where
     abbrev pub Answers : ℕ → TaskPoll (Option T) → Party F T A → Party F T A → Type 0
     Answers n answer p r = (path : List Deed) × AnswerPath woken compared awaiter path answer × Did path (as_task n) p r
 

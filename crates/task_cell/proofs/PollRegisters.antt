@@ -70,16 +70,16 @@ module _ {F T A : Type 0} where
   pub same_clone : (p : Party F T A) (n : ℕ) (a b : StoredAwaiter A) → StandsWith (TookBack n) (awaiter_first (Some a) []) p → places_of p ≡ awaiter_first (Some b) [] → b ≡ a
   same_clone p n a b s e = let same = same_first (places_of p) [] [] 1 (Second (Some a)) (Second (Some b)) (held_is p (TookBack n) (awaiter_first (Some a) []) s) e in cc
 
-  module _ {K : Type 0} (cloned : A → Result A K → Type 0) (woken woken_by_ref : A → K → Type 0) (awaiter : A) where
+  module _ {B K : Type 0} (cloned : B → Result B K → Type 0) (woken woken_by_ref : B → K → Type 0) (awaiter : B) where
     abbrev pub IsRegistered : ℕ → Party F T A → Party F T A → Type 0
     IsRegistered n p r = (path : List Deed) × RegisterPath cloned woken woken_by_ref awaiter path × Did path (Looking n) p r
 
-    pub woken_at_once : (p q r : Party F T A) (n : ℕ) (w : State) (clone : A) → w.notifying ≡ true → cloned awaiter (Ok clone) → (told : K) × woken_by_ref awaiter told
+    pub woken_at_once : (p q r : Party F T A) (n : ℕ) (w : State) (clone : B) → w.notifying ≡ true → cloned awaiter (Ok clone) → (told : K) × woken_by_ref awaiter told
         → Did (act CloneAwaiter ∷ row FindNotify w ∷ []) (UnusedClone n) p q → Did (act DropAwaiter ∷ []) (Looking (poll_number (position q))) q r → IsRegistered n p r
     woken_at_once p q r n w clone e c made g h = let a : List Deed = act CloneAwaiter ∷ row FindNotify w ∷ [] in
         (a ++ (act DropAwaiter ∷ []), paths.finds_notifier w clone made.0 e c made.1, then_goes p q r a (act DropAwaiter ∷ []) (UnusedClone n) [] [] (λ x. Looking (poll_number x)) g h)
 
-    pub registered : (p r t : Party F T A) (n : ℕ) (w v : State) (stood : Bool) (held : List (ℕ × TaskPlace F T A)) (clone : A) → w.notifying ≡ false → v.notifying ≡ false → cloned awaiter (Ok clone)
+    pub registered : (p r t : Party F T A) (n : ℕ) (w v : State) (stood : Bool) (held : List (ℕ × TaskPlace F T A)) (clone : B) → w.notifying ≡ false → v.notifying ≡ false → cloned awaiter (Ok clone)
         → DidWith (stored w ++ dropped_if stood) (Registered n) held p r → Did (row EndRegister v ∷ []) (Looking (poll_number (position r))) r t → IsRegistered n p t
     registered p r t n w v stood held clone e f c g h = let a : List Deed = stored w ++ dropped_if stood in
         (a ++ (row EndRegister v ∷ []), paths.registers w v stood clone e f c, then_goes p r t a (row EndRegister v ∷ []) (Registered n) held [] (λ x. Looking (poll_number x)) g h)
@@ -88,7 +88,7 @@ module _ {F T A : Type 0} where
         → Did (row EndRegisterNotified v ∷ []) (CloneInHand (poll_number (position t))) t u → Did (((stored w ++ dropped_if stood) ++ (act TakeAwaiter ∷ [])) ++ (row EndRegisterNotified v ∷ [])) (CloneInHand n) p u
     was_given_back p t u n w v stood held g h = then_goes p t u ((stored w ++ dropped_if stood) ++ (act TakeAwaiter ∷ [])) (row EndRegisterNotified v ∷ []) (TookBack n) held [] (λ x. CloneInHand (poll_number x)) g h
 
-    pub was_notified : (p t u x : Party F T A) (n : ℕ) (w v : State) (stood : Bool) (held : List (ℕ × TaskPlace F T A)) (clone : A) → w.notifying ≡ false → v.notifying ≡ true → cloned awaiter (Ok clone) → (told : K) × woken clone told
+    pub was_notified : (p t u x : Party F T A) (n : ℕ) (w v : State) (stood : Bool) (held : List (ℕ × TaskPlace F T A)) (clone : B) → w.notifying ≡ false → v.notifying ≡ true → cloned awaiter (Ok clone) → (told : K) × woken clone told
         → DidWith ((stored w ++ dropped_if stood) ++ (act TakeAwaiter ∷ [])) (TookBack n) held p t → Did (row EndRegisterNotified v ∷ []) (CloneInHand (poll_number (position t))) t u → Did (act WakeAwaiter ∷ []) (Looking (poll_number (position u))) u x → IsRegistered n p x
     was_notified p t u x n w v stood held clone e f c made g h k = let a : List Deed = stored w ++ dropped_if stood in let b : List Deed = (a ++ (act TakeAwaiter ∷ [])) ++ (row EndRegisterNotified v ∷ []) in (
       a ++ (act TakeAwaiter ∷ row EndRegisterNotified v ∷ act WakeAwaiter ∷ []),

@@ -132,7 +132,7 @@ module _ {F T A : Type 0} where
     finds_notified : DidWith (act TakeAwaiter ∷ []) (TookBack (poll_number (position p))) (places_of p) p q → EndsRegister p q false
 
   -- the caller's awaiter is registered, unless its clone is refused
-  pub data Registers {K : Type 0} (cloned : A → Result A K → Type 0) (woken woken_by_ref : A → K → Type 0) (awaiter : A) (p q : Party F T A)
+  pub data Registers {B K : Type 0} (cloned : B → Result B K → Type 0) (woken woken_by_ref : B → K → Type 0) (awaiter : B) (p q : Party F T A)
       : Bool → Type 0 where
     is_registered : (path : List Deed) → RegisterPath cloned woken woken_by_ref awaiter path
         → Did path (Looking (poll_number (position p))) p q → Registers cloned woken woken_by_ref awaiter p q true
