@@ -48,7 +48,7 @@ impl<'a, A: Wake> LentAwaiter<'a, A> {
         ensures refused { IfErr result (λ told. A.cloned self.now.awaiter.now (Err told)) }
     {
         match AwaiterClone::of(self.awaiter) {
-            Ok(clone) => Ok(Held::new(StoredAwaiter::new(clone, &party.seat))),
+            Ok(clone) => Ok(party.to_store(clone)),
             Err(told) => Err(told),
         }
     }

@@ -6,7 +6,7 @@ ghost use Rattle.task_core.specs.declared.acts.Act.TheVariants.{EndRegisterNotif
 ghost use Rattle.task_laws.specs.Table.{after_storing};
 ghost use Rattle.task_steps.specs.declared.table.Deed.{Deed};
 ghost use Rattle.task_steps.specs.Rule.{Waits};
-ghost use Rattle.task_steps.specs.Stored.{stored_by};
+ghost use Rattle.task_steps.specs.Stored.{poll_of, stored_by};
 ghost use Rattle.task_cell.specs.PollPaths.{RegisterPath, Registers, BeginsRegister, EndsRegister, dropped_if};
 ghost use Rattle.task_cell.specs.Stores.{PutsClone};
 ghost use Rattle.task_steps.specs.Standing.{poll_number, as_task};
@@ -26,6 +26,16 @@ use task_steps::common::{Dropping, Waking};
 use task_steps::places::{Held, put_awaiter, take_awaiter};
 use task_steps::poll::{BeginningRegister, EndingNotified, EndingRegister, Refusing};
 use task_steps::table::{AwaiterClone, Kept, StoredAwaiter};
+
+impl<F, T, A> Party<F, T, A> {
+    /// What the poll of this party is to store.
+    pub fn to_store(&self, awaiter: A) -> Held<StoredAwaiter<A>>
+        ensures awaiter { result.value.awaiter ≡ awaiter }
+        ensures number { stored_by result.value ≡ poll_of self.now.seat.me.0 }
+    {
+        Held::new(StoredAwaiter::new(awaiter, &self.seat))
+    }
+}
 
 impl<R: Drop, F: Yields, Q: Drop, M: Drop, A: Drop, B: Allocator + Copy> Share<R, F, Q, M, A, B> {
     /// Writes down that the clone was refused, and that the poll ends so. It is no step.
