@@ -3,6 +3,7 @@ use Rattle.std.specs.Prelude.{◌≡◌, true, false, List}
 use Rattle.task_core.specs.declared.traits.Yields.{Ghosts}
 use Rattle.task_core.specs.declared.traits.Wake as wake
 use Rattle.task_core.specs.declared.traits.ScheduleInfo.{ScheduleInfo}
+use Rattle.task_steps.specs.declared.stored.AwaiterClone.{AwaiterClone}
 use Rattle.task_steps.specs.declared.table.Deed.{Deed}
 use Rattle.task_steps.specs.Standing.{as_ended}
 use Rattle.task_cell.specs.declared.cell.Party.{Party}
@@ -17,7 +18,7 @@ use Rattle.task_cell.specs.Witnessed.{WasMade}
 
 module _ {R F Q M A X B O K : Type 0} {G : Ghosts F O} {W : wake.Ghosts A K} where
   -- the party was lent for a wake by this waker, and has made it
-  abbrev pub WokeBy : {T : Type 0} → (Q → Runnable R F Q M A X B O K G W → ScheduleInfo → Type 0) → TaskWaker R F Q M A X B O K G W → Party F T A → Type 0
+  abbrev pub WokeBy : {T : Type 0} → (Q → Runnable R F Q M A X B O K G W → ScheduleInfo → Type 0) → TaskWaker R F Q M A X B O K G W → Party F T (AwaiterClone A K W) → Type 0
   WokeBy scheduled waker party =
       (path : List Deed) × WakeCallPath (HandedOver scheduled (cell_of waker.inner.share) waker.around false) path
       × HasMade waker.inner.share path party
