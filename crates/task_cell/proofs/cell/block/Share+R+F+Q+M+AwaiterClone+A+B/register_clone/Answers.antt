@@ -1,6 +1,6 @@
 use Rattle.task_cell.proofs.Vocabulary.{subst, true, false}
 use Rattle.task_cell.proofs.Moved.{stands}
-use Rattle.task_cell.proofs.PollRegisters.{has_begun, has_ended, stores_clone, takes_back, same_clone, woken_at_once, registered, was_given_back, was_notified}
+use Rattle.task_cell.proofs.PollRegisters.{has_begun, has_ended, gave_back, stores_clone, takes_back, same_clone, woken_at_once, registered, was_given_back, was_notified}
 use Rattle.task_cell.proofs.cell.block.Share+R+F+Q+M+AwaiterClone+A+B.register_clone.Goals as goal
 
 pub wake-requires : goal.wake-requires
@@ -21,7 +21,7 @@ end_register-requires-clause-party g c = let x = stores_clone _ _ _ _ _ c.begin_
 
 pub returns-else-not-end_register : goal.returns-else-not-end_register
 returns-else-not-end_register g c = let x = stores_clone _ _ _ _ _ c.begin_register.ensures c.if-not-begin_register.false c.store.ensures in let e = has_ended _ _ _ true c.end_register.ensures c.if-not-end_register.false in
-    registered g.A.Wake.cloned g.A.Wake.woken g.A.Wake.woken_by_ref c.args.awaiter.now.awaiter.now _ _ _ _ x.0 e.0 x.1 _ c.args.clone.value.awaiter.awaiter x.2 e.1 c.requires.cloned x.3 e.2
+    registered g.A.Wake.cloned g.A.Wake.woken g.A.Wake.woken_by_ref c.args.awaiter.now.awaiter.now _ _ _ _ x.0 e.0 x.1 _ c.args.clone.value.awaiter.awaiter x.2 e.1 c.requires.cloned x.3 e.2 (c.args.clone.value, c.requires.lent, gave_back _ _ _ c.args.clone.value e.0 c.requires.number x e.2)
 
 pub take_back-taken-requires-clause-party : goal.take_back-taken-requires-clause-party
 take_back-taken-requires-clause-party g c = let x = takes_back _ _ _ _ _ (stores_clone _ _ _ _ _ c.begin_register.ensures c.if-not-begin_register.false c.store.ensures) c.end_register.ensures c.if-not-end_register.true in (_, c.args.clone.value, stands _ _ _ _ _ x.3)
