@@ -12,7 +12,7 @@ use Rattle.task_core.specs.declared.acts.Act.TheVariants.{MissNotify, BeginNotif
 use Rattle.task_laws.specs.Table.{after_taking}
 use Rattle.task_steps.specs.declared.places.Held.{Held}
 use Rattle.task_steps.specs.declared.stored.StoredAwaiter.{StoredAwaiter}
-use Rattle.task_steps.specs.Held.{held}
+use Rattle.task_steps.specs.Held.{held as in_hands}
 use Rattle.task_steps.specs.Stored.{stored_by}
 use Rattle.task_steps.specs.declared.table.Deed.{Deed}
 use Rattle.task_steps.specs.declared.table.View.{View}
@@ -125,7 +125,7 @@ module _ {F T A : Type 0} where
   pub record EndsNotify (hand : Option ℕ) (way : NotifyingCall) (held : List (ℕ × TaskPlace F T A)) (p q : Party F T A) (found : Option (Held (StoredAwaiter A)))
       : Type 0 where
     pub word : State
-    pub is_there : Waits hand (held found)
+    pub is_there : Waits hand (in_hands found)
     pub did : DidWith (row EndNotify word ∷ []) (after_taking hand way) held p q
 
   -- a notifier: it finds another party at the awaiter, or takes it out
