@@ -24,6 +24,13 @@ use Rattle.task_steps.specs.Standing.{as_task, poll_number, rest_of, way_of}
 use Rattle.task_steps.specs.declared.places.Held.{Held}
 use Rattle.task_steps.specs.declared.table.Deed.{Deed}
 
+-- an awaiter is in hand where the machine says so
+pub both_there : {A : Type 0} (hand : Option ℕ) (found : Option (Held (StoredAwaiter A))) → Waits hand (hands found) → is_some found ≡ is_some hand
+both_there None None h = refl
+both_there (Some i) (Some a) h = refl
+both_there None (Some a) h = absurd h
+both_there (Some i) None h = absurd h
+
 module _ {F T A : Type 0} where
   -- the place of the awaiter is taken after a path
   pub takes_after : (way : NotifyingCall) (held : List (ℕ × TaskPlace F T A)) (before : List Deed) (p q r : Party F T A) (b : Bool) → DidWith before (Notifier way) held p q → BeginsNotify q r b → b ≡ true → TakesPlace way (λ v. before ++ taking v) held p r
