@@ -90,7 +90,15 @@ impl<F: Yields, A> BlockRule<Slot<F, Kept<F>>, Option<StoredAwaiter<A>>, View, T
 pub type TaskPlace<F, T, A> = Place<Slot<F, T>, Option<StoredAwaiter<A>>>;
 
 /// A share of a task's block: one word, a place for the future and then the output, one for the awaiter, and what all handles see.
-pub type Block<F, A, V, B> = Share<Slot<F, Kept<F>>, Option<StoredAwaiter<A>>, View, Terms<F>, Law, V, B>;
+pub type Block<F, A, V, B> = Share<
+    Slot<F, Kept<F>>,
+    Option<StoredAwaiter<A>>,
+    View,
+    Terms<F>,
+    Law,
+    V,
+    B,
+>;
 
 /// A share that a step may have made or left.
 pub type MaybeBlock<F, A, V, B> = MaybeShare<
@@ -104,10 +112,26 @@ pub type MaybeBlock<F, A, V, B> = MaybeShare<
 >;
 
 /// A hold of a task's block.
-pub type BlockHold<F, A, V, B> = Hold<Slot<F, Kept<F>>, Option<StoredAwaiter<A>>, View, Terms<F>, Law, V, B>;
+pub type BlockHold<F, A, V, B> = Hold<
+    Slot<F, Kept<F>>,
+    Option<StoredAwaiter<A>>,
+    View,
+    Terms<F>,
+    Law,
+    V,
+    B,
+>;
 
 /// What is left of a share for its seats.
-pub type BlockLedger<F, A, V, B> = Ledger<Slot<F, Kept<F>>, Option<StoredAwaiter<A>>, View, Terms<F>, Law, V, B>;
+pub type BlockLedger<F, A, V, B> = Ledger<
+    Slot<F, Kept<F>>,
+    Option<StoredAwaiter<A>>,
+    View,
+    Terms<F>,
+    Law,
+    V,
+    B,
+>;
 
 /// The seat of a task's block.
 pub type TaskSeat<F, T, A> = Seat<Slot<F, T>, Option<StoredAwaiter<A>>, View>;

@@ -64,7 +64,11 @@ impl<R: Drop, F: Yields, Q: Drop, M: Drop, A: Drop, B: Allocator + Copy> Share<R
     }
 
     // Takes the stored awaiter where AWAITER was found.
-    pub(crate) fn take_due(&self, party: &mut Party<F, Kept<F>, A>, due: bool) -> Option<Held<StoredAwaiter<A>>>
+    pub(crate) fn take_due(
+        &self,
+        party: &mut Party<F, Kept<F>, A>,
+        due: bool,
+    ) -> Option<Held<StoredAwaiter<A>>>
         requires cell { IsOf self.now party.old }
         requires party { (way : NotifyingCall) × Stands (notifies due way) party.old }
         ensures { (way : NotifyingCall) → Stands (notifies due way) party.old → TakesDue way due party.old party.new (held result) }

@@ -89,7 +89,12 @@ impl<R: Wait + Drop + Copy, F: Yields, Q: Drop, M: Drop, A: Wake, B: Allocator +
     }
 
     // Hands the Runnable of a run over that has ended, which ends the call.
-    pub(crate) fn hand_on<X: Copy>(self, party: &mut Party<F, Kept<F>, AwaiterClone<A>>, around: X, woken: bool)
+    pub(crate) fn hand_on<X: Copy>(
+        self,
+        party: &mut Party<F, Kept<F>, AwaiterClone<A>>,
+        around: X,
+        woken: bool,
+    )
     where
         Q: Schedule<Runnable<R, F, Q, M, A, X, B>>,
         requires cell { IsOf self party.old × (limit_of party.old ≡ limit_in self) }

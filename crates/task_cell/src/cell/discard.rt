@@ -33,7 +33,14 @@ impl<R: Drop, F: Yields, Q: Drop, M: Drop, A: Drop, B: Allocator + Copy> Share<R
     }
 }
 
-impl<R: Drop, F: Yields, Q: Drop, M: Drop, A: Wake, B: Allocator + Copy> Share<R, F, Q, M, AwaiterClone<A>, B> {
+impl<R: Drop, F: Yields, Q: Drop, M: Drop, A: Wake, B: Allocator + Copy> Share<
+    R,
+    F,
+    Q,
+    M,
+    AwaiterClone<A>,
+    B,
+> {
     // Drops a Runnable: the task is closed, its future dropped, and an awaiter that waits is woken. It tries nothing again, and cannot wait but in foreign code.
     pub(crate) fn discard_runnable(self, party: &mut Party<F, Kept<F>, AwaiterClone<A>>)
         requires cell { IsOf self party.old }

@@ -57,7 +57,11 @@ impl<R: Wait + Drop + Copy, F: Yields, Q: Drop, M: Drop, A: Wake, B: Allocator +
     B,
 > {
     // Drops a waker. The last handle of a task that is over empties the slots; the last waker of an open task that nobody else has closes it, and hands a Runnable over that ends it.
-    pub(crate) fn drop_waker<X: Copy>(self, party: &mut Party<F, Kept<F>, AwaiterClone<A>>, around: X)
+    pub(crate) fn drop_waker<X: Copy>(
+        self,
+        party: &mut Party<F, Kept<F>, AwaiterClone<A>>,
+        around: X,
+    )
     where
         Q: Schedule<Runnable<R, F, Q, M, A, X, B>>,
         requires cell { IsOf self party.old × (limit_of party.old ≡ limit_in self) }

@@ -74,7 +74,11 @@ impl<R, F: Yields, Q, M, A, B: Allocator> Ledger<R, F, Q, M, A, B> {
 
 impl<R, F: Yields, Q, M, A: Wake, B: Allocator> Ledger<R, F, Q, M, AwaiterClone<A>, B> {
     // Wakes the awaiter that was taken. The act stands in the list before the awaiter is called.
-    pub(crate) fn wake_taken(&self, party: &mut Party<F, Kept<F>, AwaiterClone<A>>, awaiter: Option<Held<StoredAwaiter<AwaiterClone<A>>>>)
+    pub(crate) fn wake_taken(
+        &self,
+        party: &mut Party<F, Kept<F>, AwaiterClone<A>>,
+        awaiter: Option<Held<StoredAwaiter<AwaiterClone<A>>>>,
+    )
         requires cell { IsBeside self.now party.old }
         requires party { (way : NotifyingCall) × HasTaken way party.old (held awaiter) }
         ensures { (way : NotifyingCall) → HasTaken way party.old (held awaiter) → Wakes (WokeClone A.Wake) way (held awaiter) party.old party.new }

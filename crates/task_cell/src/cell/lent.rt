@@ -33,7 +33,12 @@ impl<R: Wait + Drop + Copy, F: Yields, Q: Drop, M: Drop, A: Wake, B: Allocator +
         self,
         party: Party<F, Kept<F>, AwaiterClone<A>>,
         around: X,
-    ) -> (Self, Party<F, Kept<F>, AwaiterClone<A>>, Poll<F::Output>, Word)
+    ) -> (
+        Self,
+        Party<F, Kept<F>, AwaiterClone<A>>,
+        Poll<F::Output>,
+        Word,
+    )
     where
         F: Future<TaskWaker<R, F, Q, M, A, X, B>>,
         Q: Schedule<Runnable<R, F, Q, M, A, X, B>>,

@@ -66,7 +66,11 @@ impl<R: Drop, F: Yields, Q: Drop, M: Drop, A: Drop, B: Allocator + Copy> Share<R
     }
 
     /// Puts the clone into the awaiter slot: the older awaiter that stood there, if one did.
-    pub fn put_clone(&self, party: &mut Party<F, Kept<F>, A>, clone: Held<StoredAwaiter<A>>) -> Option<Held<StoredAwaiter<A>>>
+    pub fn put_clone(
+        &self,
+        party: &mut Party<F, Kept<F>, A>,
+        clone: Held<StoredAwaiter<A>>,
+    ) -> Option<Held<StoredAwaiter<A>>>
         requires cell { IsOf self.now party.old }
         requires party { (i : ℕ) × (hand : Option ℕ) × (y : Option _) × StandsWith (after_storing i hand) (awaiter_first y []) party.old × Waits hand y }
         ensures { (i : ℕ) (hand : Option ℕ) (y : Option _) → StandsWith (after_storing i hand) (awaiter_first y []) party.old → Waits hand y → PutsClone i hand clone.value party.old party.new result }

@@ -105,7 +105,11 @@ impl<R: Wait + Drop + Copy, F: Yields, Q: Drop, M: Drop, A: Wake, B: Allocator +
     B,
 > {
     // A run, from where its poll has answered Ready, as the party that polled.
-    pub(crate) fn finish_ready(self, party: &mut Party<F, Kept<F>, AwaiterClone<A>>, output: Held<Kept<F>>)
+    pub(crate) fn finish_ready(
+        self,
+        party: &mut Party<F, Kept<F>, AwaiterClone<A>>,
+        output: Held<Kept<F>>,
+    )
         requires cell { IsOf self party.old }
         requires party { (y : Slot F _) × StandsWith ReadyFutureDropped (work_first y []) party.old }
         requires yielded { HasYielded self output.value.output }

@@ -73,7 +73,10 @@ impl<R: Wait + Drop + Copy, F: Yields, Q: Drop, M: Drop, A: Wake, B: Allocator +
     AwaiterClone<A>,
     B,
 > {
-    fn begin_run(&self, mut party: Party<F, Kept<F>, AwaiterClone<A>>) -> (Party<F, Kept<F>, AwaiterClone<A>>, bool)
+    fn begin_run(
+        &self,
+        mut party: Party<F, Kept<F>, AwaiterClone<A>>,
+    ) -> (Party<F, Kept<F>, AwaiterClone<A>>, bool)
         requires cell { IsOf self.now party }
         requires party { Stands as_runnable party }
         ensures { TakesUp (values_in self.now) party result.0 result.1 }
@@ -82,7 +85,10 @@ impl<R: Wait + Drop + Copy, F: Yields, Q: Drop, M: Drop, A: Wake, B: Allocator +
         (party, started)
     }
 
-    fn end_closed_run(self, mut party: Party<F, Kept<F>, AwaiterClone<A>>) -> Party<F, Kept<F>, AwaiterClone<A>>
+    fn end_closed_run(
+        self,
+        mut party: Party<F, Kept<F>, AwaiterClone<A>>,
+    ) -> Party<F, Kept<F>, AwaiterClone<A>>
         requires cell { IsOf self party }
         requires party { (y : Slot F _) × StandsWith (FutureGone ClosedRun) (work_first y []) party }
         ensures { Closes (WokeClone A.Wake) party result }

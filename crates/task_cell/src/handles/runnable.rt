@@ -53,7 +53,9 @@ impl<
     }
 
     /// A waker of the task, which holds a reference. Where the count of references is at the limit, nothing has changed, and the error is the record of the call, which says so.
-    pub fn waker(&self) -> Result<TaskWaker<R, F, Q, M, A, X, B>, EndedCall<F, Kept<F>, AwaiterClone<A>>>
+    pub fn waker(
+        &self,
+    ) -> Result<TaskWaker<R, F, Q, M, A, X, B>, EndedCall<F, Kept<F>, AwaiterClone<A>>>
     where
         Q: Schedule<Runnable<R, F, Q, M, A, X, B>>,
         ensures cell { IfOk result (λ waker. cell_of waker.inner.share ≡ cell_of self.now.inner.share) }

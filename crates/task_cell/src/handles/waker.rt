@@ -55,7 +55,11 @@ where
     // A wake whose first try has missed, and has left this word. It stands apart, so that a wake that is made at once calls nothing that may wait, but the schedule value.
     #[cold]
     #[inline(never)]
-    fn wake_again(&self, mut party: Party<F, Kept<F>, AwaiterClone<A>>, word: Word) -> EndedCall<F, Kept<F>, AwaiterClone<A>>
+    fn wake_again(
+        &self,
+        mut party: Party<F, Kept<F>, AwaiterClone<A>>,
+        word: Word,
+    ) -> EndedCall<F, Kept<F>, AwaiterClone<A>>
         requires cell { IsOf self.now.inner.share party × (limit_of party ≡ limit_in self.now.inner.share) }
         requires party { (p : _) × HasMade self.now.inner.share [] p × Sees word p party }
         ensures path { WokeBy Q.scheduled self.now result.party }
@@ -69,7 +73,12 @@ where
     fn end_wake(
         &self,
         party: Party<F, Kept<F>, AwaiterClone<A>>,
-        woken: Option<(Share<R, F, Q, M, AwaiterClone<A>, B>, Party<F, Kept<F>, AwaiterClone<A>>)>,
+        woken: Option<
+            (
+                Share<R, F, Q, M, AwaiterClone<A>, B>,
+                Party<F, Kept<F>, AwaiterClone<A>>,
+            ),
+        >,
     ) -> EndedCall<F, Kept<F>, AwaiterClone<A>>
         requires party { (p : _) × HasMade self.now.inner.share [] p × WakesTask p party (second woken) }
         requires share { IfSome woken (λ made. cell_of made.0 ≡ cell_of self.now.inner.share) }
