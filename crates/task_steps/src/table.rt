@@ -7,7 +7,9 @@ ghost use Rattle.task_steps.specs.declared.table.Slot.{Slot};
 ghost use Rattle.task_steps.specs.Seats.{is_spent};
 
 pub use crate::kept::Kept;
-use counted_block::{Bare, BlockRule, Hold, Inner, Ledger, MaybeShare, Place, Seat, Share};
+use counted_block::{
+    Bare, BlockRule, Hold, Inner, LastShare, Ledger, MaybeShare, Place, Seat, Share,
+};
 use std::alloc::{AllocFailed, Allocator};
 use std::collections::LinkedList;
 use std::snapshot::Snapshot;
@@ -93,6 +95,17 @@ pub type Block<F, A, V, B> = Share<Slot<F, Kept<F>>, Option<A>, View, Terms<F>, 
 
 /// A share that a step may have made or left.
 pub type MaybeBlock<F, A, V, B> = MaybeShare<
+    Slot<F, Kept<F>>,
+    Option<A>,
+    View,
+    Terms<F>,
+    Law,
+    V,
+    B,
+>;
+
+/// What the owner of the last share of a task's block keeps, once no handle is left.
+pub type LastBlock<F, A, V, B> = LastShare<
     Slot<F, Kept<F>>,
     Option<A>,
     View,
