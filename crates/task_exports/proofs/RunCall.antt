@@ -18,7 +18,7 @@ use Rattle.task_exports.proofs.Numbers.{differs, joined}
 use Rattle.task_exports.specs.Answers.{Completed, Finishes, GivesBack, GoesOn, Pends, Starts, empties}
 use Rattle.task_exports.specs.Answers as answers
 use Rattle.task_exports.specs.CallPaths.{Done, EndsTaken, ends_taken}
-use Rattle.task_exports.specs.Hands.{IsGone, IsLive}
+use Rattle.task_exports.specs.Hands.{IsGone, IsLive, IsLast}
 use Rattle.task_exports.specs.Parties.{CellParty}
 use Rattle.task_exports.specs.declared.hand.Hand.{Hand}
 use Rattle.task_exports.specs.declared.hand.Record.{Record}
@@ -99,7 +99,7 @@ module _ (Woken : Type 0) where
     left_over _ (answers.gives n _ np (answers.none_left w answer y f live d)) e = differs 9 1 refl refl e
 
     -- .. it was the last handle
-    pub left_last : (n : ℕ) → GoesOn OfRun due before x k n → n ≡ 9 → IsLive k × IsEmptier false k.party × ((q : CellParty) → Did (empties false) as_ended k.party q → Rests due before x.party q)
+    pub left_last : (n : ℕ) → GoesOn OfRun due before x k n → n ≡ 9 → IsLast k × IsEmptier false k.party × ((q : CellParty) → Did (empties false) as_ended k.party q → Rests due before x.party q)
     left_last _ (answers.takes w hand y is f live h d) e = differs 7 9 refl refl e
     left_last _ (answers.gives n _ np (answers.others w f gone d)) e = differs 1 9 refl refl e
     left_last _ (answers.gives n _ np (answers.none_left w answer y f live d)) e = (
@@ -141,7 +141,7 @@ module _ (Woken : Type 0) where
     taken_wakes _ _ (answers.last_wakes v w i y f live d) e = differs 15 8 refl refl e
 
     -- .. nothing lay there, and it was the last handle
-    pub taken_last : (awaiter : Option ℕ) (n : ℕ) → Finishes x k awaiter n → n ≡ 9 → IsLive k × IsEmptier false k.party × ((q : CellParty) → Did (empties false) as_ended k.party q → Takes x.party q)
+    pub taken_last : (awaiter : Option ℕ) (n : ℕ) → Finishes x k awaiter n → n ≡ 9 → IsLast k × IsEmptier false k.party × ((q : CellParty) → Did (empties false) as_ended k.party q → Takes x.party q)
     taken_last _ _ (answers.over v w f gone d) e = differs 1 9 refl refl e
     taken_last _ _ (answers.wakes v w i f gone d) e = differs 8 9 refl refl e
     taken_last _ _ (answers.last v w y f live d) e = (
@@ -152,7 +152,7 @@ module _ (Woken : Type 0) where
     taken_last _ _ (answers.last_wakes v w i y f live d) e = differs 15 9 refl refl e
 
     -- .. and it is to be woken once the places are empty
-    pub taken_last_wakes : (awaiter : Option ℕ) (n : ℕ) → Finishes x k awaiter n → n ≡ 15 → IsLive k × IsEmptier true k.party × ((q : CellParty) → Did (empties true) as_ended k.party q → Woken → Takes x.party q)
+    pub taken_last_wakes : (awaiter : Option ℕ) (n : ℕ) → Finishes x k awaiter n → n ≡ 15 → IsLast k × IsEmptier true k.party × ((q : CellParty) → Did (empties true) as_ended k.party q → Woken → Takes x.party q)
     taken_last_wakes _ _ (answers.over v w f gone d) e = differs 1 15 refl refl e
     taken_last_wakes _ _ (answers.wakes v w i f gone d) e = differs 8 15 refl refl e
     taken_last_wakes _ _ (answers.last v w y f live d) e = differs 9 15 refl refl e

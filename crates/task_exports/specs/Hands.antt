@@ -11,6 +11,10 @@ SameCell x y = (x.share.maybe.id ≡ y.share.maybe.id) × (x.share.maybe.value �
 abbrev pub IsLive : Hand → Type 0
 IsLive x = (x.share.maybe.there ≡ true) × (x.party.seat.block ≡ x.share.maybe.id) × (limit_of x.party ≡ x.share.maybe.key.limit)
 
+-- the last share is there, and the party is one of its cell
+abbrev pub IsLast : Hand → Type 0
+IsLast x = ((x.share.maybe.there ≡ false) × (x.share.maybe.last ≡ true)) × (x.party.seat.block ≡ x.share.maybe.id) × (limit_of x.party ≡ x.share.maybe.key.limit)
+
 -- the share is gone
 abbrev pub IsGone : Hand → Type 0
-IsGone x = x.share.maybe.there ≡ false
+IsGone x = (x.share.maybe.there ≡ false) × (x.share.maybe.last ≡ false)

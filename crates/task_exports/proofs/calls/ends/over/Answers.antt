@@ -4,7 +4,7 @@ use Rattle.task_steps.specs.Standing.{as_ended}
 use Rattle.task_exports.proofs.calls.ends.over.Goals as goal
 
 pub none-requires : goal.none-requires
-none-requires c = record { there = ap (λ x. x.share.maybe.there) c.take-share.ensures.0 ∙ c.requires.gone }
+none-requires c = record { there = ap (λ x. x.share.maybe.there) c.take-share.ensures.0 ∙ c.requires.gone.0; last = ap (λ x. x.share.maybe.last) c.take-share.ensures.0 ∙ c.requires.gone.1 }
 
 pub invariant_of-result : goal.invariant_of-result
 invariant_of-result c = record { ended = subst (λ x. Stands as_ended x.party) (sym c.take-share.ensures.0) c.requires.party }
