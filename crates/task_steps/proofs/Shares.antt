@@ -38,7 +38,7 @@ abbrev pub Parts : Bool → ℕ → ℕ → Type 0
 Parts last before after = (after + 1 ≡ before) × (last ≡ eqb after 0)
 
 abbrev pub Gives : Bool → Bool → ℕ → ℕ → Type 0
-Gives b last before after = (b ≡ false) × (after ≡ before) ⊎ (b ≡ true) × Parts last before after
+Gives b last before after = (b ≡ false) × (after ≡ before) ⊎ (b ≡ true) × (after + 1 ≡ before) × (last ≡ eqb after 0)
 
 below : (w : State) → HasRoom w → number_of w < 18446744073709551616
 below w h = let h1 = bit_le w.scheduled in let h2 = bit_le w.running in let h3 = bit_le w.completed in let h4 = bit_le w.closed in let h5 = bit_le w.task in let h6 = bit_le w.awaiter in let h7 = bit_le w.registering in let h8 = bit_le w.notifying in omega arith
@@ -48,7 +48,7 @@ abbrev ExchangeBrings : ℕ → ℕ → Bool → Bool → Type 0
 ExchangeBrings n new c b = (b && c ≡ false) × (shares_out (either b new n) ≡ shares_out n) ⊎ (b && c ≡ true) × (shares_out (either b new n) ≡ shares_out n + 1) × (shares_out n + 1 < 4611686018427387904)
 
 abbrev ExchangeGives : ℕ → ℕ → Bool → Bool → Bool → Type 0
-ExchangeGives n new c last b = (b && c ≡ false) × (shares_out (either b new n) ≡ shares_out n) ⊎ (b && c ≡ true) × Parts last (shares_out n) (shares_out (either b new n))
+ExchangeGives n new c last b = (b && c ≡ false) × (shares_out (either b new n) ≡ shares_out n) ⊎ (b && c ≡ true) × (shares_out (either b new n) + 1 ≡ shares_out n) × (last ≡ eqb (shares_out (either b new n)) 0)
 
 module _ (F T A : Type 0) (values : Values F T) (limit : ℕ) where
   abbrev B : Type 0
@@ -111,6 +111,6 @@ module _ (F T A : Type 0) (values : Values F T) (limit : ℕ) where
       (λ hit. let here : number_of w ≡ number_of m.word = sym hit ∙ run.word_is in let now : m.word ≡ w = same_word m.word w (number_of w) refl here in let word : m.word ≡ state_of (word_of s) = sym (ap state_of run.word_is ∙ state_of_number_of m.word) in
       let after = shares_after m p (acts_on a m.word) (number_of v) held (makes_change F T A values limit a p ds us held changes w applied m f here) in let before = shares_now s run in
       ⊎_elim (λ (z : (counts_on a m.word ≡ false) × (shares_of (word_after m.word (acts_on a m.word)) ≡ shares_of m.word)). inl (ap (counts_on a) (sym word) ∙ z.0, after ∙ (z.1 ∙ sym before)))
-      (λ (z : (counts_on a m.word ≡ true) × Parts (lasts_on a m.word) (shares_of m.word) (shares_of (word_after m.word (acts_on a m.word)))). inr (ap (counts_on a) (sym word) ∙ z.0, ap (λ k. k + 1) after ∙ (z.1 ∙ sym before), ap (lasts_on a) (sym word) ∙ (z.2 ∙ ap (λ k. eqb k 0) (sym after))))
+      (λ (z : (counts_on a m.word ≡ true) × (shares_of (word_after m.word (acts_on a m.word)) + 1 ≡ shares_of m.word) × (lasts_on a m.word ≡ eqb (shares_of (word_after m.word (acts_on a m.word))) 0)). inr (ap (counts_on a) (sym word) ∙ z.0, ap (λ k. k + 1) after ∙ (z.1 ∙ sym before), ap (lasts_on a) (sym word) ∙ (z.2 ∙ ap (λ k. eqb k 0) (sym after))))
       (moves m f (subst (λ (z : State). a.applies limit z ≡ true) (sym now) applied)))
       (inl (refl, refl))
