@@ -197,7 +197,7 @@ impl<'x, 'm, R: Wait + Drop + Copy> Player<'x, 'm, R> {
             "queued" => self.fixture.surroundings.queued() as u64,
             // How often memory was asked for, and given back.
             "blocks" => memory.allocations(),
-            "returned" => memory.returns(),
+            "given_back" => memory.returns(),
             _ => return self.change(name),
         };
         Some(words.number() == Some(number))
@@ -260,7 +260,12 @@ impl<'x, 'm, R: Wait + Drop + Copy> Player<'x, 'm, R> {
 
     fn receive(&mut self) -> Option<bool> {
         let runnable = self.fixture.surroundings.receive()?;
-        Some(self.runnable.replace(runnable).is_none())
+        Some(self.put_runnable(runnable))
+    }
+
+    // There was no Runnable.
+    fn put_runnable(&mut self, runnable: RowRunnable<'x, 'm, R>) -> bool {
+        self.runnable.replace(runnable).is_none()
     }
 
     fn push(&mut self) -> Option<bool> {
@@ -306,7 +311,7 @@ impl<'x, 'm, R: Wait + Drop + Copy> Player<'x, 'm, R> {
         let shown = self.fixture.shows(&parked, "ParkedRunnable", word);
         let is_made = parked.metadata().makers() == self.fixture.counters.makers.get();
         let unparked = parked.unpark(&self.fixture.surroundings);
-        let is_none = self.runnable.replace(unparked).is_none();
+        let is_none = self.put_runnable(unparked);
         Some(self.is_shown(shown)? && is_made && is_none)
     }
 
@@ -323,7 +328,7 @@ impl<'x, 'm, R: Wait + Drop + Copy> Player<'x, 'm, R> {
     fn runnable_around(&mut self) -> Option<bool> {
         let bare = self.runnable.take()?.with_around(());
         let runnable = bare.with_around(&self.fixture.surroundings);
-        Some(self.runnable.replace(runnable).is_none())
+        Some(self.put_runnable(runnable))
     }
 
     fn waker(&mut self) -> Option<bool> {
@@ -478,13 +483,18 @@ impl<'x, 'm, R: Wait + Drop + Copy> Player<'x, 'm, R> {
         let shown = self.fixture.shows(&parked, "ParkedTask", word);
         let is_made = parked.metadata().makers() == self.fixture.counters.makers.get();
         let unparked = Held::Task(parked.unpark(&self.fixture.surroundings));
-        let is_none = self.task.replace(unparked).is_none();
+        let is_none = self.put_task(unparked);
         Some(self.is_shown(shown)? && is_made && is_none)
     }
 
     fn task_around(&mut self) -> Option<bool> {
         let task = self.task.take()?.around(self.fixture);
-        Some(self.task.replace(task).is_none())
+        Some(self.put_task(task))
+    }
+
+    // There was no Task.
+    fn put_task(&mut self, task: Held<'x, 'm, R>) -> bool {
+        self.task.replace(task).is_none()
     }
 
     fn detach(&mut self) -> Option<bool> {
@@ -501,12 +511,12 @@ impl<'x, 'm, R: Wait + Drop + Copy> Player<'x, 'm, R> {
 
     fn make_fallible(&mut self) -> Option<bool> {
         let task = self.task.take()?.fallible()?;
-        Some(self.task.replace(task).is_none())
+        Some(self.put_task(task))
     }
 
     fn make_cancel(&mut self) -> Option<bool> {
         let task = self.task.take()?.cancel()?;
-        Some(self.task.replace(task).is_none())
+        Some(self.put_task(task))
     }
 
     fn keep_task(&mut self) -> Option<bool> {
@@ -531,7 +541,7 @@ impl<'x, 'm, R: Wait + Drop + Copy> Player<'x, 'm, R> {
             None => true,
         };
         let next = self.other_tasks.pop_front()?;
-        Some(self.task.replace(next).is_none() && is_kept)
+        Some(self.put_task(next) && is_kept)
     }
 }
 

@@ -74,11 +74,7 @@ where
 }
 
 // Has a second thread run, which answers that, and makes the steps beside it.
-fn run_beside<R>(
-    player: &mut Player<'_, '_, R>,
-    answer: bool,
-    beside: &str,
-) -> Result<(), Missing>
+fn run_beside<R>(player: &mut Player<'_, '_, R>, answer: bool, beside: &str) -> Result<(), Missing>
 where
     R: Wait + Threads + Drop + Copy + Send + Sync,
 {

@@ -11,7 +11,7 @@ fn drops_and_detaches_ask_for_no_memory(rt: HostRuntime) {
         rt,
         rt.alloc(),
         "spawn ready 1; push; spawn ready 1; push; next_task; receive; blocks 2; runnable_makers 2; discard_runnable; \
-         finished; makers 2; counted 0 0 1 0; returned 0; detach; counted 0 0 1 1; next_task; detach; counted 0 0 1 1; \
+         finished; makers 2; counted 0 0 1 0; given_back 0; detach; counted 0 0 1 1; next_task; detach; counted 0 0 1 1; \
          receive; drop_runnable; counted 0 0 2 2; blocks 2; freed",
     );
 }
@@ -22,7 +22,7 @@ fn cancels_and_schedules_ask_for_no_memory(rt: HostRuntime) {
     check_script(
         rt,
         rt.alloc(),
-        "spawn ready 1; push; spawn pending; push; next_task; receive; blocks 2; drop_task; counted 0 0 0 0; returned 0; \
+        "spawn ready 1; push; spawn pending; push; next_task; receive; blocks 2; drop_task; counted 0 0 0 0; given_back 0; \
          run; counted 0 0 1 1; receive; schedule; receive; schedule; receive; schedule; receive; counted 0 3 1 1; \
          next_task; drop_task; drop_runnable; counted 0 3 2 2; blocks 2; freed",
     );
@@ -35,7 +35,7 @@ fn wakers_ask_for_no_memory(rt: HostRuntime) {
         rt,
         rt.alloc(),
         "spawn pending; blocks 1; waker; waker; run; wake_by_ref; receive; clone_waker; run; wake; counted 2 2 0 0; \
-         receive; run; discard_waker; wake; counted 3 3 0 0; returned 0; drop_task; receive; drop_runnable; \
+         receive; run; discard_waker; wake; counted 3 3 0 0; given_back 0; drop_task; receive; drop_runnable; \
          counted 3 3 1 1; blocks 1; freed",
     );
 }
@@ -48,7 +48,7 @@ fn polls_ask_for_no_memory(rt: HostRuntime) {
         rt.alloc(),
         "spawn ready 1; push; spawn ready 1; push; spawn ready 1; push; cancel; next_task; next_task; fallible; \
          next_task; next_task; blocks 3; poll 1 waits; next_task; poll 1 waits; next_task; poll 1 waits; next_task; \
-         returned 0; receive; run; receive; drop_runnable; receive; run; poll 1 gives 1; drop_task; \
+         given_back 0; receive; run; receive; drop_runnable; receive; run; poll 1 gives 1; drop_task; \
          next_task; poll 1 closed; drop_task; next_task; poll 1 closed; drop_task; ends 1 3 3 0; counted 1 0 3 3; \
          blocks 3; freed",
     );
