@@ -279,8 +279,13 @@ impl<'x, 'm, R: Wait + Drop + Copy> Player<'x, 'm, R> {
     }
 
     fn run(&mut self, words: &mut Words<'_>) -> Option<bool> {
+        let answer = match words.next() {
+            "" => false,
+            "again" => true,
+            _ => return None,
+        };
         let (is_rescheduled, _) = self.runnable.take()?.run();
-        Some(is_rescheduled == (words.next() == "again"))
+        Some(is_rescheduled == answer)
     }
 
     fn drop_runnable(&mut self) -> Option<bool> {
@@ -592,6 +597,7 @@ impl<'x, 'm, R: Wait + Drop + Copy> Player<'x, 'm, R> {
         let mut agrees = true;
         for word in words.rest().split_ascii_whitespace() {
             agrees &= surroundings.take_info() == Some(word == "true");
+            agrees &= matches!(word, "true" | "false");
         }
         Some(agrees && surroundings.take_info().is_none())
     }

@@ -67,7 +67,9 @@ where
     player.play(parts.next().unwrap_or(""));
     if let Some(call) = parts.next() {
         let beside = parts.next().unwrap_or("");
-        run_beside(player, call.trim() == "run again", beside)?;
+        let answer = call.trim() == "run again";
+        player.has_failed |= !answer && call.trim() != "run";
+        run_beside(player, answer, beside)?;
     }
     player.play(parts.next().unwrap_or(""));
     Ok(())
