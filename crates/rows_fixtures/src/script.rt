@@ -8,7 +8,7 @@ use crate::flag::Flag;
 use crate::outcome::Missing;
 use crate::player::Player;
 use crate::rendezvous::Rendezvous;
-use crate::surroundings::RowRunnable;
+use crate::surroundings::SentRunnable;
 use std::alloc::{AllocError, Global};
 use std::process::Abort;
 use std::sync::Wait;
@@ -84,12 +84,13 @@ where
         player.has_failed = true;
         return Ok(());
     };
+    let sent = SentRunnable { runnable };
     let fixture = player.fixture;
     let rt = fixture.rt;
     let rendezvous = &fixture.surroundings.rendezvous;
     rendezvous.arm();
     thread::scope(thread::scope_env(), &rt, |scope| {
-        let Ok(second) = scope.spawn(move || run(runnable)) else {
+        let Ok(second) = scope.spawn(move || sent.run()) else {
             return Err(Missing::Thread);
         };
         meet(player, rendezvous, beside);
@@ -97,11 +98,6 @@ where
         player.has_failed |= answered != answer || !rendezvous.met();
         Ok(())
     })
-}
-
-// Runs: what the run answers.
-fn run<R: Wait + Drop + Copy>(runnable: RowRunnable<'_, '_, R>) -> bool {
-    runnable.run().0
 }
 
 // What is done beside a run.

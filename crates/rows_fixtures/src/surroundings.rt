@@ -58,6 +58,21 @@ type BareTask<'m, R> = Task<R, RowFuture, Scheduler, Tag, Flag, (), Memory<'m>>;
 // A waker without surroundings, as its store holds it.
 type BareWaker<'m, R> = TaskWaker<R, RowFuture, Scheduler, Tag, Flag, (), Memory<'m>>;
 
+/// A Runnable that is for another thread. A closure that captures it has no type that names two lifetimes.
+#[derive(Drop)]
+pub struct SentRunnable<'x, 'm, R: Wait + Drop + Copy> {
+    /// The Runnable.
+    pub runnable: RowRunnable<'x, 'm, R>,
+}
+
+impl<'x, 'm, R: Wait + Drop + Copy> SentRunnable<'x, 'm, R> {
+    /// Runs it: what the run answers.
+    pub fn run(self) -> bool {
+        let SentRunnable { runnable } = self;
+        runnable.run().0
+    }
+}
+
 /// The metadata of the rows: it counts its drop, and the call of the maker that is lent it.
 pub struct Tag {
     counters: Arc<Counters>,

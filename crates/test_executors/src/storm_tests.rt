@@ -20,13 +20,21 @@ const WAKES: u32 = 1_000;
 
 const TURNS: u32 = 10_000_000;
 
-// What each of the four threads does.
-fn wake_often<R: Wait + Drop + Copy>(waker: RowWaker<'_, '_, R>, ended: &Counter) {
-    for _ in 0..WAKES {
-        waker.wake_by_ref();
+// A waker that is for another thread.
+#[derive(Drop)]
+struct SentWaker<'x, 'm, R: Wait + Drop + Copy> {
+    waker: RowWaker<'x, 'm, R>,
+}
+
+impl<'x, 'm, R: Wait + Drop + Copy> SentWaker<'x, 'm, R> {
+    // What each of the four threads does.
+    fn wake_often(self, ended: &Counter) {
+        for _ in 0..WAKES {
+            self.waker.wake_by_ref();
+        }
+        drop(self);
+        ended.add_one();
     }
-    drop(waker);
-    ended.add_one();
 }
 
 // Runs whatever is queued, until the four threads have ended and the queue is empty. False where that was not reached.
@@ -53,7 +61,8 @@ fn storm<'x, 'm, R: Wait + Threads + Drop + Copy + Send + Sync>(
             let Ok(waker) = runnable.waker() else {
                 return false;
             };
-            if scope.spawn(move || wake_often(waker, ended)).is_err() {
+            let sent = SentWaker { waker };
+            if scope.spawn(move || sent.wake_often(ended)).is_err() {
                 return false;
             }
         }

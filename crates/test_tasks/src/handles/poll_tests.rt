@@ -10,7 +10,7 @@ use rows_fixtures::flag::Flag;
 use rows_fixtures::output::is_ready_with;
 use rows_fixtures::rendezvous::Rendezvous;
 use rows_fixtures::script::check_script;
-use rows_fixtures::surroundings::{RowRunnable, RowTask};
+use rows_fixtures::surroundings::{RowTask, SentRunnable};
 use std::alloc::Global;
 use std::process::Abort;
 use std::sync::Wait;
@@ -61,15 +61,15 @@ fn poll<R: Wait + Drop + Copy>(task: &mut RowTask<'_, '_, R>, awaiter: &Flag) ->
 fn end_at<R: Wait + Drop + Copy>(
     fixture: &Fixture<'_, R>,
     meeting: &Rendezvous,
-    runnable: RowRunnable<'_, '_, R>,
+    sent: SentRunnable<'_, '_, R>,
     runs: bool,
 ) -> [bool; 2] {
     let came = meeting.await_poll();
-    let shown = matches!(fixture.shows(&runnable, "Runnable", 0x131), Ok(true));
+    let shown = matches!(fixture.shows(&sent.runnable, "Runnable", 0x131), Ok(true));
     if runs {
-        runnable.run();
+        sent.run();
     } else {
-        drop(runnable);
+        drop(sent);
     }
     meeting.release();
     [came, shown]
@@ -79,7 +79,7 @@ fn end_at<R: Wait + Drop + Copy>(
 // Stops where there is no thread.
 fn poll_beside<'x, 'm, R>(
     fixture: &'x Fixture<'m, R>,
-    runnable: RowRunnable<'x, 'm, R>,
+    sent: SentRunnable<'x, 'm, R>,
     task: &mut RowTask<'x, 'm, R>,
     awaiters: &[Flag; 2],
     runs: bool,
@@ -92,7 +92,7 @@ where
     let meeting = older.meeting();
     meeting.arm();
     thread::scope(thread::scope_env(), &rt, |scope| {
-        let second = scope.spawn(move || end_at(fixture, meeting, runnable, runs));
+        let second = scope.spawn(move || end_at(fixture, meeting, sent, runs));
         let Ok(second) = second else {
             panic!(rt; "no thread");
         };
@@ -119,7 +119,8 @@ where
     let spawned = fixture.spawn(Behaviour::Ready(6), u64::MAX);
     let (runnable, mut task) = spawned.expect(&rt, "refused");
     let first = poll(&mut task, &awaiters[0]);
-    let (second, [came, running]) = poll_beside(&fixture, runnable, &mut task, &awaiters, runs);
+    let sent = SentRunnable { runnable };
+    let (second, [came, running]) = poll_beside(&fixture, sent, &mut task, &awaiters, runs);
     let shown = matches!(fixture.shows(&task, "Task", word), Ok(true));
     drop(task);
     (
