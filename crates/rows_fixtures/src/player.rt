@@ -15,6 +15,9 @@ use std::collections::VecDeque;
 use std::mem;
 use std::sync::Wait;
 
+// More words than a look has.
+const WORDS: usize = 16;
+
 /// The handles and the awaiters of a script.
 #[derive(Drop)]
 pub struct Player<'x, 'm, R: Wait + Drop + Copy> {
@@ -576,8 +579,14 @@ impl<'x, 'm, R: Wait + Drop + Copy> Player<'x, 'm, R> {
 
     fn noted(&self, words: &mut Words<'_>) -> Option<bool> {
         let mut events = 0;
-        for name in words.rest().split_ascii_whitespace() {
-            events = Event::named(name)?.after(events);
+        for _ in 0..WORDS {
+            if words.are_read() {
+                break;
+            }
+            let Some(event) = Event::named(words.next()) else {
+                return None;
+            };
+            events = event.after(events);
         }
         Some(self.fixture.counters.take_events() == events)
     }
@@ -595,9 +604,12 @@ impl<'x, 'm, R: Wait + Drop + Copy> Player<'x, 'm, R> {
     fn told(&self, words: &mut Words<'_>) -> Option<bool> {
         let surroundings = &self.fixture.surroundings;
         let mut agrees = true;
-        for word in words.rest().split_ascii_whitespace() {
-            agrees &= surroundings.take_info() == Some(word == "true");
-            agrees &= matches!(word, "true" | "false");
+        for _ in 0..WORDS {
+            if words.are_read() {
+                break;
+            }
+            let told = told_by(words.next());
+            agrees &= told.is_some() && surroundings.take_info() == told;
         }
         Some(agrees && surroundings.take_info().is_none())
     }
@@ -612,6 +624,15 @@ impl<'x, 'm, R: Wait + Drop + Copy> Player<'x, 'm, R> {
     fn is_freed(&self) -> bool {
         let memory = self.fixture.memory;
         !self.is_held() && memory.bytes() == memory.returned_bytes()
+    }
+}
+
+// What a word says of `woken_while_running`, if it says that.
+fn told_by(word: &str) -> Option<bool> {
+    match word {
+        "true" => Some(true),
+        "false" => Some(false),
+        _ => None,
     }
 }
 
