@@ -11,11 +11,11 @@ none-requires g c = record { there = c.drop_reference-found.ensures.share.is_the
 pub returns-in-Shared : goal.returns-in-Shared
 returns-in-Shared g c = record { path = drops_shared _ c.args.party.now c.drop_reference-found.new.party (subst (DropsWaker c.args.party.now c.drop_reference-found.new.party) c.in-Shared.is c.drop_reference-found.ensures.path) }
 
-pub last-in-Last-requires : goal.last-in-Last-requires
-last-in-Last-requires g c = record { last = (c.drop_reference-found.ensures.share.is_there, c.drop_reference-found.ensures.share.is_last ∙ ap (λ x. not (ends_waker x)) c.in-Last.is) }
+pub last-requires : goal.last-requires
+last-requires g c = record { last = (c.drop_reference-found.ensures.share.is_there, c.drop_reference-found.ensures.share.is_last ∙ ap (λ x. not (ends_waker x)) c.in-Last.is) }
 
 pub empty_at_end-requires-clause-cell : goal.empty_at_end-requires-clause-cell
-empty_at_end-requires-clause-cell g c = let x = subst (DropsWaker c.args.party.now c.drop_reference-found.new.party) c.in-Last.is c.drop_reference-found.ensures.path in x.4.cell ∙ (c.requires.cell.0 ∙ sym (c.last-in-Last.ensures.0 ∙ c.drop_reference-found.ensures.share.cell.0))
+empty_at_end-requires-clause-cell g c = let x = subst (DropsWaker c.args.party.now c.drop_reference-found.new.party) c.in-Last.is c.drop_reference-found.ensures.path in x.4.cell ∙ (c.requires.cell.0 ∙ sym (c.last.ensures.0 ∙ c.drop_reference-found.ensures.share.cell.0))
 
 pub empty_at_end-requires-clause-party : goal.empty_at_end-requires-clause-party
 empty_at_end-requires-clause-party g c = let x = subst (DropsWaker c.args.party.now c.drop_reference-found.new.party) c.in-Last.is c.drop_reference-found.ensures.path in (x.1, stands _ _ _ _ _ x.4)
@@ -23,8 +23,8 @@ empty_at_end-requires-clause-party g c = let x = subst (DropsWaker c.args.party.
 pub returns-in-Last : goal.returns-in-Last
 returns-in-Last g c = record { path = drops_last _ c.args.party.now c.drop_reference-found.new.party c.empty_at_end.new.party (subst (DropsWaker c.args.party.now c.drop_reference-found.new.party) c.in-Last.is c.drop_reference-found.ensures.path) c.empty_at_end.ensures }
 
-pub last-in-Orphaned-requires : goal.last-in-Orphaned-requires
-last-in-Orphaned-requires g c = record { last = (c.drop_reference-found.ensures.share.is_there, c.drop_reference-found.ensures.share.is_last ∙ ap (λ x. not (ends_waker x)) c.in-Orphaned.is) }
+pub last-requires-in-Orphaned : goal.last-requires-in-Orphaned
+last-requires-in-Orphaned g c = record { last = (c.drop_reference-found.ensures.share.is_there, c.drop_reference-found.ensures.share.is_last ∙ ap (λ x. not (ends_waker x)) c.in-Orphaned.is) }
 
 pub close_orphan-share-requires-clause-cell : goal.close_orphan-share-requires-clause-cell
 close_orphan-share-requires-clause-cell g c = let x = subst (DropsWaker c.args.party.now c.drop_reference-found.new.party) c.in-Orphaned.is c.drop_reference-found.ensures.path in x.3.cell ∙ (c.requires.cell.0 ∙ sym (c.last-in-Orphaned.ensures.0 ∙ c.drop_reference-found.ensures.share.cell.0))
