@@ -10,7 +10,7 @@ use base.Fml.{Lft, Incl, Incl-trans, Share, Fml, ftrue, fsep, fauth, flft}
 use contract.BorrowLft.{meet_⊑_left, meet_⊑_right}
 use prog.Atomic.{either}
 use types.Logic.{Logic, sem}
-use types.Kit.{‵, raw, ◌⊛◌, some, later, ◌$◌, ◌∵◌, !, qed, move, use0, use1, use2, split, split3, join, group, fsplit, fjoin, fjoin3, fpick, fpack, pick, check, show, frame, await}
+use types.Kit.{‵, raw, ◌⊛◌, some, later, ◌$◌, ◌∵◌, !, qed, move, use0, use1, use2, use3, split, split3, join, group, fsplit, fsplit3, fjoin, fjoin3, fpick, fpack, pick, check, show, frame, await}
 use types.Kit.{updating, now, rewrite, done}
 use types.Tokens.{lft_new, bor_new, name_new}
 use types.Owned.{basic}
@@ -28,7 +28,7 @@ use Rattle.atomic_table.proofs.Marking as marking
 use Rattle.counted_block.specs.declared.place.Place.{Place}
 use Rattle.counted_block.specs.declared.place.Place.TheVariants.{First, Second}
 use Rattle.counted_block.specs.Layout.{at_first, at_second}
-use Rattle.counted_block.specs.Blocks.{BlockId, life, place, parts, parts_if, grips_left, Fits, seat_owns, words_in, standing, stands}
+use Rattle.counted_block.specs.Blocks.{BlockId, life, place, is_one, is_all, of_shares, of_last, keepers, grip, shares_left, parts, parts_if, grips_left, Fits, seat_owns, words_in, standing, stands}
 use Rattle.counted_block.specs.Held.{slots_there, content, looked_at, kept_of}
 use Rattle.counted_block.proofs.Grips as grips
 use Rattle.counted_block.proofs.Keeping.{keeps_new}
@@ -44,12 +44,21 @@ first_counts m true e lo hi = is_eq m 2 e
 first_counts m false e lo hi = let ne = not_eq m 2 e in omega (arith, ne)
 
 module _ {M : Type 1} {𝓤 : Ura M} (𝓛 : Logic 𝓤) (z : BlockId) where
-  first_parts : (y : Bool) → ent 𝓤 (sep 𝓤 (sem 𝓛 (rest 64 z.age 1)) (sem 𝓛 (rest 62 z.tally 1))) (sep 𝓤 (sem 𝓛 (rest 64 z.age (first_out y)))
-      (sep 𝓤 (sem 𝓛 (rest 62 z.tally (first_out y))) (sem 𝓛 (parts_if y z))))
-  first_parts false = qed 𝓛 (‵ (rest 64 z.age 1) ∷ ‵ (rest 62 z.tally 1) ∷ []) ∵ frame ! $ frame ! $ nothing ! $ done !
-  first_parts true = qed 𝓛 (‵ (rest 64 z.age 1) ∷ ‵ (rest 62 z.tally 1) ∷ []) ∵ use1 𝓛 (‵ (rest 64 z.age 2) ⊛ ‵ (part 64 z.age)) (counts.takes 64 𝓛 z.age 1 (lit< tt)) $
-      split ! $ frame ! $ move ! (1 ∷ []) $
-      use1 𝓛 (‵ (rest 62 z.tally 2) ⊛ ‵ (part 62 z.tally)) (counts.takes 62 𝓛 z.tally 1 (lit< tt)) $ split ! $ frame ! $ move ! (1 ∷ 0 ∷ []) $ fjoin ! $ done !
+  abbrev Grips : ℕ → Fml
+  Grips n = fsep (rest 64 z.age (keepers n + 0)) (shares_left z n)
+
+  -- a share, and a second one where there are two
+  first_parts : (y : Bool) → ent 𝓤 (sep 𝓤 (sem 𝓛 (rest 64 z.age 1)) (sep 𝓤 (sem 𝓛 (grips_left z.grips of_shares 0)) (sem 𝓛 (grip is_all z.grips of_last))))
+      (sep 𝓤 (sem 𝓛 (Grips (first_out y))) (sep 𝓤 (sem 𝓛 (grip is_one z.grips of_shares)) (sem 𝓛 (parts_if y false z))))
+  first_parts false = qed 𝓛 (‵ (rest 64 z.age 1) ∷ ‵ (grips_left z.grips of_shares 0) ∷ ‵ (grip is_all z.grips of_last) ∷ []) ∵ move ! (1 ∷ []) $
+      use1 𝓛 (‵ (grips_left z.grips of_shares 1) ⊛ ‵ (grip is_one z.grips of_shares)) (grips.takes 𝓛 z.grips of_shares 0 (lit< tt)) $ split ! $ move ! (0 ∷ 3 ∷ []) $ fjoin ! $
+      move ! (2 ∷ 0 ∷ []) $ fjoin ! $ frame ! $ frame ! $ nothing ! $ done !
+  first_parts true = qed 𝓛 (‵ (rest 64 z.age 1) ∷ ‵ (grips_left z.grips of_shares 0) ∷ ‵ (grip is_all z.grips of_last) ∷ []) ∵
+      use1 𝓛 (‵ (rest 64 z.age 2) ⊛ ‵ (part 64 z.age)) (counts.takes 64 𝓛 z.age 1 (lit< tt)) $ split ! $ move ! (2 ∷ []) $
+      use1 𝓛 (‵ (grips_left z.grips of_shares 1) ⊛ ‵ (grip is_one z.grips of_shares)) (grips.takes 𝓛 z.grips of_shares 0 (lit< tt)) $ split ! $
+      use1 𝓛 (‵ (grips_left z.grips of_shares 2) ⊛ ‵ (grip is_one z.grips of_shares)) (grips.takes 𝓛 z.grips of_shares 1 (lit< tt)) $ split ! $
+      -- [the shares' grips; one; one more; the age's rest and part; the last share's]
+      move ! (0 ∷ 5 ∷ []) $ fjoin ! $ move ! (3 ∷ 0 ∷ []) $ fjoin ! $ frame ! $ frame ! $ move ! (1 ∷ 0 ∷ []) $ fjoin ! $ done !
 
 module _ {M : Type 1} {𝓤 : Ura M} (𝓛 : Logic 𝓤) (R Q T : RattleType) {V : Type 0} (cv : Coded V) (holds : State (Place R.Denot Q.Denot) V → Type 0) (out : ℕ → ℕ) (k : Ty → Ptr →
     Fml) (x : T.Denot) (b o : ℕ) where
@@ -68,19 +77,19 @@ module _ {M : Type 1} {𝓤 : Ura M} (𝓛 : Logic 𝓤) (R Q T : RattleType) {V
 
   -- a place with no names yet
   abbrev pub unnamed : BlockId
-  unnamed = record { views = 0; age = 0; tally = 0; grips = 0; first = 0; second = 0; block = b; offset = o }
+  unnamed = record { views = 0; age = 0; grips = 0; first = 0; second = 0; block = b; offset = o }
 
   abbrev P : Fml
   P = content R Q T k unnamed x
 
   module _ (y : Bool) (n : ℕ) (m : R.Denot × Q.Denot) (v : V) where
     abbrev pub Begun : BlockId → Pr
-    Begun z = guard 𝓤 (place z ≡ block_ptr b o) (⟦ parts z ⟧ ∗ ⟦ parts_if y z ⟧ ∗ ⟦ kept_of R Q T cv.code holds out k z x ⟧ ∗ ⟦ looked_at R Q T k z x (life z) ⟧
+    Begun z = guard 𝓤 (place z ≡ block_ptr b o) (⟦ parts z ⟧ ∗ ⟦ parts_if y false z ⟧ ∗ ⟦ kept_of R Q T cv.code holds out k z x ⟧ ∗ ⟦ looked_at R Q T k z x (life z) ⟧
         ∗ ⟦ seat_owns R Q z cv.code 0 (v, []) ⟧)
 
-    packs : (z : BlockId) → place z ≡ block_ptr b o → ⟦ parts z ⟧ ∗ ⟦ parts_if y z ⟧ ∗ ⟦ kept_of R Q T cv.code holds out k z x ⟧ ∗ ⟦ looked_at R Q T k z x (life z) ⟧
+    packs : (z : BlockId) → place z ≡ block_ptr b o → ⟦ parts z ⟧ ∗ ⟦ parts_if y false z ⟧ ∗ ⟦ kept_of R Q T cv.code holds out k z x ⟧ ∗ ⟦ looked_at R Q T k z x (life z) ⟧
         ∗ ⟦ seat_owns R Q z cv.code 0 (v, []) ⟧ ⊢ ex 𝓤 Begun
-    packs z at = qed 𝓛 (‵ (parts z) ∷ ‵ (parts_if y z) ∷ ‵ (kept_of R Q T cv.code holds out k z x) ∷ ‵ (looked_at R Q T k z x (life z)) ∷ ‵ (seat_owns R Q z cv.code 0 (v, [])) ∷
+    packs z at = qed 𝓛 (‵ (parts z) ∷ ‵ (parts_if y false z) ∷ ‵ (kept_of R Q T cv.code holds out k z x) ∷ ‵ (looked_at R Q T k z x (life z)) ∷ ‵ (seat_owns R Q z cv.code 0 (v, [])) ∷
         []) ∵ show ! Begun z $ check ! at $ done !
 
     pub begun : out n ≡ first_out y → holds (opening (n ∷ []) (First m.0 ∷ Second m.1 ∷ []) v) → (l : Lft) → Lends 𝓛 P (looked_at R Q T k unnamed x) l → (μ : Lft) (q : Share) →
@@ -88,30 +97,29 @@ module _ {M : Type 1} {𝓤 : Ura M} (𝓛 : Logic 𝓤) (R Q T : RattleType) {V
         → ⟦ words_in unnamed n 0 ⟧ ∗ ⟦ slots_there R Q T k unnamed x m ⟧ ∗ ⟦ P ⟧ ∗ A.lft μ q ⊢ H.⇛ (ex 𝓤 Begun ∗ A.lft μ q)
     begun count good l lends μ q inc = qed 𝓛 (‵ (words_in unnamed n 0) ∷ ‵ (slots_there R Q T k unnamed x m) ∷ ‵ P ∷ ‵ (flft μ q) ∷ []) ∵ updating ! $
         lft_new ! tt (λ a. use1 𝓛 (‵ (rest 64 a 1) ⊛ ‵ (part 64 a)) (cut 64 𝓛 a 0 full_share (lit< tt) (Counts-all 64)) $ split ! $
-        lft_new ! tt (λ d. use1 𝓛 (‵ (rest 62 d 1) ⊛ ‵ (part 62 d)) (cut 62 𝓛 d 0 full_share (lit< tt) (Counts-all 62)) $ split ! $
-        -- [the tally's rest and part; the age's; the words; the slots; the content; the token]
-        move ! (5 ∷ []) $ fsplit ! $ name_new ! tt (R.coded.code m.0) (λ d₀. move ! (2 ∷ 1 ∷ []) $ fjoin ! $ fpack ! R.Denot (λ w. fsep (part_at R full_share w b (o + at_first R))
+        -- [the age's rest and part; the words; the slots; the content; the token]
+        move ! (3 ∷ []) $ fsplit ! $ name_new ! tt (R.coded.code m.0) (λ d₀. move ! (2 ∷ 1 ∷ []) $ fjoin ! $ fpack ! R.Denot (λ w. fsep (part_at R full_share w b (o + at_first R))
         (fauth d₀ (R.coded.code w))) m.0 $ bor_new ! tt (a ∷ []) $ move ! (2 ∷ 0 ∷ []) $ fjoin ! $ move ! (2 ∷ []) $ name_new ! tt (Q.coded.code m.1) (λ d₁. move ! (2 ∷ 1 ∷ []) $
         fjoin ! $ fpack ! Q.Denot (λ w. fsep (part_at Q full_share w b (o + at_second R Q)) (fauth d₁ (Q.coded.code w))) m.1 $ bor_new ! tt (a ∷ []) $ move ! (2 ∷ 0 ∷ []) $ fjoin ! $
-        -- [the second slot and the right to it; the first's; the tally's rest and part; the age's; the words; the content; the token]
+        -- [the second slot and the right to it; the first's; the age's rest and part; the words; the content; the token]
         nothing ! $ move ! (1 ∷ 0 ∷ []) $ fjoin ! $ move ! (2 ∷ 0 ∷ []) $ fjoin ! $ move ! (2 ∷ 1 ∷ []) $ fjoin ! $
-        -- [the rights; the shelf; the tally's rest and part; the age's; the words; the content; the token]
-        move ! (7 ∷ []) $ bor_new ! tt (a ∷ []) $ move ! (1 ∷ 2 ∷ []) $ fjoin ! $ move ! (2 ∷ 0 ∷ []) $ fjoin ! $ use0 𝓛 (later (some (λ (γ : ℕ). ‵ (grips_left γ 0))))
-        (via 𝓤 _ (grips.begins 𝓛) (basic 𝓛 (ex 𝓤 (λ (γ : ℕ). ⟦ grips_left γ 0 ⟧)))) $ await ! tt $
-        pick ! (λ γ'. use0 𝓛 (later (some (λ (γ : ℕ). ‵ (roster cv.code γ 0 (v ∷ [])) ⊛ ‵ (mark_owns cv.code γ 0 v)))) (marking.begins 𝓛 cv v) $ await ! tt $
-        pick ! (λ γ. split ! $ let z : BlockId = record { views = γ; age = a; tally = d; grips = γ'; first = d₀; second = d₁; block = b; offset = o } in
+        -- [the rights; the shelf; the age's rest and part; the words; the content; the token]
+        move ! (5 ∷ []) $ bor_new ! tt (a ∷ []) $ move ! (1 ∷ 2 ∷ []) $ fjoin ! $ move ! (2 ∷ 0 ∷ []) $ fjoin ! $ use0 𝓛 (later (some (λ (γ : ℕ). ‵ (grips.Begun 𝓛 γ))))
+        (via 𝓤 _ (grips.begins 𝓛) (basic 𝓛 (ex 𝓤 (λ (γ : ℕ). ⟦ grips.Begun 𝓛 γ ⟧)))) $ await ! tt $
+        pick ! (λ γ'. fsplit3 ! $ use0 𝓛 (later (some (λ (γ : ℕ). ‵ (roster cv.code γ 0 (v ∷ [])) ⊛ ‵ (mark_owns cv.code γ 0 v)))) (marking.begins 𝓛 cv v) $ await ! tt $
+        pick ! (λ γ. split ! $ let z : BlockId = record { views = γ; age = a; grips = γ'; first = d₀; second = d₁; block = b; offset = o } in
         let s₀ : State S V = opening (n ∷ []) (First m.0 ∷ Second m.1 ∷ []) v in
-        -- [the roster; the view; the grips; the slots and what is lent; the content's borrow; the tally's rest and part; the age's; the words; the token]
-        nothing ! $ fpack ! (Fits holds s₀) (λ _. ftrue) (good, refl, refl) $ move ! (1 ∷ 0 ∷ []) $ fjoin ! $ move ! (7 ∷ 5 ∷ []) $ use2 𝓛 (‵ (rest 64 a (first_out y)) ⊛
-        ‵ (rest 62 d (first_out y)) ⊛ ‵ (parts_if y z)) (first_parts 𝓛 z y) $ split3 ! $ let sum : first_out y ≡ out n + 0 = omega arith in rewrite ! 0 (λ (i : ℕ). ‵ (rest 64 a i)) sum
-        refl $ rewrite ! 1 (λ (i : ℕ). ‵ (rest 62 d i)) (sym count) refl $ fjoin ! $ move ! (0 ∷ 4 ∷ []) $ fjoin ! $ nothing ! $ fpack ! (0 < 9223372036854775808) (λ _. ftrue) (lit< tt) $
+        -- [the roster; the view; the grips, of each kind; the slots and what is lent; the content's borrow; the age's rest and part; the words; the token]
+        nothing ! $ fpack ! (Fits holds s₀) (λ _. ftrue) (good, refl, refl) $ move ! (1 ∷ 0 ∷ []) $ fjoin ! $ move ! (7 ∷ 3 ∷ 4 ∷ []) $
+        use3 𝓛 (‵ (Grips 𝓛 z (first_out y)) ⊛ ‵ (grip is_one γ' of_shares) ⊛ ‵ (parts_if y false z)) (first_parts 𝓛 z y) $ split3 ! $
+        rewrite ! 0 (λ (i : ℕ). ‵ (Grips 𝓛 z i)) (sym count) refl $ move ! (0 ∷ 5 ∷ []) $ fjoin ! $ nothing ! $ fpack ! (0 < 9223372036854775808) (λ _. ftrue) (lit< tt) $
         fjoin ! $
-        -- [the counts; the second share; the views; the view; the slots and what is lent; the borrow; the tally's part; the age's; the words; the token]
-        move ! (4 ∷ 2 ∷ []) $ fjoin ! $ move ! (7 ∷ 1 ∷ 0 ∷ []) $ fjoin3 ! $ fpack ! (Bool × (State S V × ℕ)) (standing R Q cv.code holds out P z) (true, (s₀, 0)) $
+        -- [the counts; a grip; the second share; the views; the view; the slots and what is lent; the borrow; the age's part; the words; the token]
+        move ! (5 ∷ 3 ∷ []) $ fjoin ! $ move ! (7 ∷ 1 ∷ 0 ∷ []) $ fjoin3 ! $ fpack ! (Bool × (State S V × ℕ)) (standing R Q cv.code holds out P z) (true, (s₀, 0)) $
         fpack ! Bool (stands R Q cv.code holds out P z) true $ use1 𝓛 (later (‵ (kept_of R Q T cv.code holds out k z x))) (keeps_new R Q cv.code holds out P z 𝓛) $ await ! tt $
-        -- [what is kept; the second share; the view; the borrow; the tally's part; the age's; the token]
-        move ! (5 ∷ []) $ fpick ! (λ e. fpick ! (λ c. move ! (0 ∷ 6 ∷ []) $ join ! $ move ! (4 ∷ 0 ∷ []) $ use2 𝓛 (later (‵ (looked_at R Q T k unnamed x (a ∷ [])) ⊛
+        -- [what is kept; a grip; the second share; the view; the borrow; the age's part; the token]
+        move ! (5 ∷ []) $ fpick ! (λ e. fpick ! (λ c. move ! (0 ∷ 6 ∷ []) $ join ! $ move ! (5 ∷ 0 ∷ []) $ use2 𝓛 (later (‵ (looked_at R Q T k unnamed x (a ∷ [])) ⊛
         ‵ (flft (a ∷ []) e) ⊛ ‵ (flft μ q))) (lends (a ∷ []) ((a ∷ [], e) ∷ (μ, q) ∷ []) (Incl-trans (meet_⊑_right (a ∷ []) μ) inc) (meet_⊑_left (a ∷ []) μ)) $ await ! tt $
-        split3 ! $ move ! (1 ∷ []) $ use1 𝓛 (‵ (part 64 a)) (part_in 64 𝓛 a e c) $ move ! (0 ∷ 6 ∷ []) $ fjoin ! $
+        split3 ! $ move ! (1 ∷ []) $ use1 𝓛 (‵ (part 64 a)) (part_in 64 𝓛 a e c) $ move ! (0 ∷ 4 ∷ []) $ fjoin ! $
         -- [the parts; the value; the token; what is kept; the second share; the view]
-        nothing ! $ move ! (6 ∷ 0 ∷ []) $ fjoin ! $ move ! (1 ∷ 5 ∷ 4 ∷ 2 ∷ 0 ∷ []) $ group ! 5 $ use1 𝓛 (raw (ex 𝓤 Begun)) (packs z refl) $ now ! $ done !))))))))
+        nothing ! $ move ! (6 ∷ 0 ∷ []) $ fjoin ! $ move ! (1 ∷ 5 ∷ 4 ∷ 2 ∷ 0 ∷ []) $ group ! 5 $ use1 𝓛 (raw (ex 𝓤 Begun)) (packs z refl) $ now ! $ done !)))))))

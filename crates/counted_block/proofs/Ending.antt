@@ -21,8 +21,7 @@ use Rattle.atomic_table.specs.Table.{State, Me}
 use Rattle.atomic_table.specs.Seated.{word, seen, roster}
 use Rattle.atomic_table.proofs.Roster.{Moved, moves}
 use Rattle.counted_block.specs.declared.place.Place.{Place}
-use Rattle.counted_block.specs.Blocks.{BlockId, life, stay, parts, parts_if, word_of, Fits, seat_owns, counted, remains_if}
-use Rattle.counted_block.specs.Counts.{Last}
+use Rattle.counted_block.specs.Blocks.{BlockId, life, closed, last_parts, parts_if, word_of, Fits, seat_owns, counted, remains_if}
 use Rattle.counted_block.proofs.Opening.{Ends, Ended}
 use Rattle.counted_block.proofs.Counting as counting
 use Rattle.counted_block.proofs.Holds.{J, around, over, goes_on, opened, is_eq, not_eq}
@@ -38,7 +37,7 @@ module _ {M : Type 1} {𝓤 : Ura M} (𝓛 : Logic 𝓤) {V : Type 0} (cv : Code
       learn ! (λ at. by ! (fact_i 𝓤 φ (all 𝓤 (Moved 𝓛 cv γ 0 vs id id)) at))) (guard_i 𝓤 φ X)
 
 module _ {M : Type 1} {𝓤 : Ura M} (𝓛 : Logic 𝓤) (R Q : RattleType) {V : Type 0} (cv : Coded V) (holds : State (Place R.Denot Q.Denot) V → Type 0) (out : ℕ → ℕ) (P : Fml) (z : BlockId)
-    (id : ℕ) (me : Me (Place R.Denot Q.Denot) V) (last : Last holds out id me.0) where
+    (id : ℕ) (me : Me (Place R.Denot Q.Denot) V) where
   open 𝓛 use {A}
 
   abbrev Pr : Type 2
@@ -73,7 +72,7 @@ module _ {M : Type 1} {𝓤 : Ura M} (𝓛 : Logic 𝓤) (R Q : RattleType) {V :
   abbrev Over : Bool → Fml
   Over y = remains_if R Q cv.code holds out P z y Seat
 
-  -- one share is out where this seat is, and the seat is in the roster
+  -- the seat is in the roster
   alone_at : (s : State (Place R.Denot Q.Denot) V) → ⟦ Around s ⟧ ∗ ⟦ Mine ⟧ ⊢ guard 𝓤 (holds s × (get_elem? s.views id ≡ maybe.some me.0)) (⟦ Around s ⟧ ∗ ⟦ Mine ⟧)
   alone_at s = qed 𝓛 (‵ (Around s) ∷ ‵ Mine ∷ []) ∵ fsplit3 ! $ move ! (2 ∷ []) $ fsplit ! $ move ! (1 ∷ []) $ fpick ! (λ so. drop ! $ move ! (3 ∷ []) $ fsplit ! $
       move ! (2 ∷ 0 ∷ []) $
@@ -84,60 +83,60 @@ module _ {M : Type 1} {𝓤 : Ura M} (𝓛 : Logic 𝓤) (R Q : RattleType) {V :
 
   module _ (f : ℕ → ℕ) (after : ℕ → Fml) where
     -- no hold: both counts end, and the block
-    ends_all : (s : State (Place R.Denot Q.Denot) V) (h : ℕ) (K : Fml) → h ≡ 0 → out (word_of s) ≡ 1 → (holds s × (get_elem? s.views id ≡ maybe.some me.0)) →
+    ends_all : (s : State (Place R.Denot Q.Denot) V) (h : ℕ) (K : Fml) → h ≡ 0 → out (word_of s) ≡ 0 → (holds s × (get_elem? s.views id ≡ maybe.some me.0)) →
         ((⟦ Over true ⟧ ∗ ⟦ K ⟧) ⊢ ⟦ after h ⟧)
-        → ⟦ Counts true (word_of s) h ⟧ ∗ ⟦ parts z ⟧ ∗ ⟦ Around s ⟧ ∗ ⟦ K ⟧ ⊢ ⟦ word b o (f h) ⟧ -∗ Ended 𝓛 I b o f after h
-    ends_all s h K none one at gives = let D : Pr = A.dead (life z) in let D' : Pr = A.dead (stay z) in let N : Pr = Ends 𝓛 I b o f after [] h in let N' : Pr = A.lft (stay z) full_share
-        ∗ (D' -∗ N) in
-        qed 𝓛 (‵ (Counts true (word_of s) h) ∷ ‵ (parts z) ∷ ‵ (Around s) ∷ ‵ K ∷ []) ∵ rewrite ! 0 (λ (k : ℕ). ‵ (Counts true (word_of s) k)) none refl $
-        use2 𝓛 (‵ (flft (life z) full_share) ⊛ ‵ (flft (stay z) full_share)) (counting.alone 𝓛 R Q cv holds out P z (word_of s) one) $ split ! $ assume ! (‵ (word b o (f h))) $
-        show ! (λ (ls : List ℕ). Ends 𝓛 I b o f after ls h) (z.age ∷ z.tally ∷ []) $ suffices ! _ (upd_i 𝓤 (A.lft (life z) full_share ∗ (D -∗ upd 𝓤 N'))) $ move ! (1 ∷ []) $
-        frame ! $ assume ! (‵ (fdead (life z))) $ suffices ! _ (upd_i 𝓤 N') $ move ! (2 ∷ []) $ frame ! $ assume ! (‵ (fdead (stay z))) $
-        -- [over; over; the holds; what is around; K]
-        let Z : Pr = ⟦ I ⟧ ∗ ⟦ after h ⟧ in suffices ! _ (upd_i 𝓤 Z) $ move ! (2 ∷ 1 ∷ 0 ∷ 3 ∷ []) $ types.Kit.group ! 4 $
+        → ⟦ Counts true (word_of s) h ⟧ ∗ ⟦ last_parts z ⟧ ∗ ⟦ Around s ⟧ ∗ ⟦ K ⟧ ⊢ ⟦ word b o (f h) ⟧ -∗ Ended 𝓛 I b o f after h
+    ends_all s h K none unshared at gives = let D : Pr = A.dead (life z) in let N : Pr = Ends 𝓛 I b o f after [] h in
+        qed 𝓛 (‵ (Counts true (word_of s) h) ∷ ‵ (last_parts z) ∷ ‵ (Around s) ∷ ‵ K ∷ []) ∵ rewrite ! 0 (λ (k : ℕ). ‵ (Counts true (word_of s) k)) none refl $
+        use2 𝓛 (‵ (flft (life z) full_share) ⊛ ‵ (closed z)) (counting.alone 𝓛 R Q cv holds out P z (word_of s) unshared) $ split ! $ assume ! (‵ (word b o (f h))) $
+        show ! (λ (ls : List ℕ). Ends 𝓛 I b o f after ls h) (z.age ∷ []) $ suffices ! _ (upd_i 𝓤 (A.lft (life z) full_share ∗ (D -∗ N))) $ move ! (1 ∷ []) $
+        frame ! $ assume ! (‵ (fdead (life z))) $
+        -- [over; the holds; closed; what is around; K]
+        let Z : Pr = ⟦ I ⟧ ∗ ⟦ after h ⟧ in suffices ! _ (upd_i 𝓤 Z) $ move ! (1 ∷ 0 ∷ 2 ∷ 3 ∷ []) $ types.Kit.group ! 4 $
         use1 𝓛 (‵ I ⊛ ‵ (Over true)) (over 𝓛 R Q cv holds out P z Seat s (f h) (λ _. at)) $ split ! $ frame ! $ by ! gives
 
     -- by the holds that are found
-    module _ (next : (s : State (Place R.Denot Q.Denot) V) (h : ℕ) (y : Bool) → eqb h 0 ≡ y → h < 9223372036854775808 → out (word_of s) ≡ 1 →
+    module _ (next : (s : State (Place R.Denot Q.Denot) V) (h : ℕ) (y : Bool) → eqb h 0 ≡ y → h < 9223372036854775808 → out (word_of s) ≡ 0 →
         (holds s × (get_elem? s.views id ≡ maybe.some me.0))
-        → ⟦ Counts true (word_of s) h ⟧ ∗ ⟦ parts z ⟧ ∗ ⟦ Around s ⟧ ∗ ⟦ Mine ⟧ ⊢ ⟦ word b o (f h) ⟧ -∗ Ended 𝓛 I b o f after h) where
-      law : (y : Bool) (s : State (Place R.Denot Q.Denot) V) (h : ℕ) → h < 18446744073709551616 → ⟦ Counts y (word_of s) h ⟧ ∗ (⟦ parts z ⟧ ∗ ⟦ Mine ⟧) ∗ ⟦ Around s ⟧
+        → ⟦ Counts true (word_of s) h ⟧ ∗ ⟦ last_parts z ⟧ ∗ ⟦ Around s ⟧ ∗ ⟦ Mine ⟧ ⊢ ⟦ word b o (f h) ⟧ -∗ Ended 𝓛 I b o f after h) where
+      law : (y : Bool) (s : State (Place R.Denot Q.Denot) V) (h : ℕ) → h < 18446744073709551616 → ⟦ Counts y (word_of s) h ⟧ ∗ (⟦ last_parts z ⟧ ∗ ⟦ Mine ⟧) ∗ ⟦ Around s ⟧
           ⊢ ⟦ word b o (f h) ⟧ -∗ Ended 𝓛 I b o f after h
-      law false s h small = qed 𝓛 (‵ (Counts false (word_of s) h) ∷ (‵ (parts z) ⊛ ‵ Mine) ∷ ‵ (Around s) ∷ []) ∵ fsplit3 ! $ move ! (1 ∷ []) $ fsplit ! $ move ! (4 ∷ []) $
-          split ! $ fsplit ! $ keep ! (1 ∷ 4 ∷ []) $ by ! (counting.part_dead 𝓛 z.tally 62 _)
-      law true s h small = qed 𝓛 (‵ (Counts true (word_of s) h) ∷ (‵ (parts z) ⊛ ‵ Mine) ∷ ‵ (Around s) ∷ []) ∵ fsplit ! $ fpick ! (λ few. drop ! $ nothing ! $
-          fpack ! (h < 9223372036854775808) (λ _. ftrue) few $ fjoin ! $
-          move ! (1 ∷ []) $ split ! $ move ! (3 ∷ 1 ∷ []) $ use2 𝓛 (given (holds s × (get_elem? s.views id ≡ maybe.some me.0)) (‵ (Around s) ⊛ ‵ Mine)) (alone_at s) $
+      law false s h small = qed 𝓛 (‵ (Counts false (word_of s) h) ∷ (‵ (last_parts z) ⊛ ‵ Mine) ∷ ‵ (Around s) ∷ []) ∵ fsplit3 ! $ move ! (1 ∷ []) $ fsplit ! $ move ! (4 ∷ []) $
+          split ! $ keep ! (0 ∷ 3 ∷ []) $ by ! (counting.lone_closed 𝓛 R Q cv holds out P z _)
+      law true s h small = qed 𝓛 (‵ (Counts true (word_of s) h) ∷ (‵ (last_parts z) ⊛ ‵ Mine) ∷ ‵ (Around s) ∷ []) ∵ fsplit ! $ fpick ! (λ few. drop ! $ nothing ! $
+          fpack ! (h < 9223372036854775808) (λ _. ftrue) few $ fjoin ! $ move ! (1 ∷ []) $ split ! $ move ! (2 ∷ 0 ∷ []) $
+          use2 𝓛 (given (out (word_of s) ≡ 0) (‵ (Counts true (word_of s) h) ⊛ ‵ (last_parts z))) (counting.lone_parts 𝓛 R Q cv holds out P z (word_of s) h) $ learn ! (λ unshared. split ! $
+          move ! (3 ∷ 2 ∷ []) $ use2 𝓛 (given (holds s × (get_elem? s.views id ≡ maybe.some me.0)) (‵ (Around s) ⊛ ‵ Mine)) (alone_at s) $
           learn ! (λ at. split ! $
-          -- [what is around; the seat; the parts; the counts]
-          move ! (3 ∷ 2 ∷ 0 ∷ 1 ∷ []) $ by ! (next s h (eqb h 0) refl few (last s at.0 at.1) at)))
+          -- [what is around; the seat; the counts; the parts]
+          move ! (2 ∷ 3 ∷ 0 ∷ 1 ∷ []) $ by ! (next s h (eqb h 0) refl few unshared at))))
 
-      here : (Z : Pr) → (⟦ parts z ⟧ ∗ ⟦ Mine ⟧) ∗ A.dead (life z) ∗ A.dead (stay z) ⊢ Z
-      here Z = qed 𝓛 ((‵ (parts z) ⊛ ‵ Mine) ∷ ‵ (fdead (life z)) ∷ ‵ (fdead (stay z)) ∷ []) ∵ split ! $ fsplit ! $ keep ! (0 ∷ 3 ∷ []) $
+      here : (Z : Pr) → (⟦ last_parts z ⟧ ∗ ⟦ Mine ⟧) ∗ A.dead (life z) ∗ ⟦ closed z ⟧ ⊢ Z
+      here Z = qed 𝓛 ((‵ (last_parts z) ⊛ ‵ Mine) ∷ ‵ (fdead (life z)) ∷ ‵ (closed z) ∷ []) ∵ split ! $ fsplit ! $ keep ! (0 ∷ 3 ∷ []) $
           by ! (counting.part_dead 𝓛 z.age 64 Z)
 
-      by_holds : A.inv I ∗ ⟦ parts z ⟧ ∗ ⟦ Mine ⟧ ⊢ asks 𝓛 (block_ptr b o) f always after
-      by_holds = opened 𝓛 R Q cv holds out P z f after (⟦ parts z ⟧ ∗ ⟦ Mine ⟧) here law
+      by_holds : A.inv I ∗ ⟦ last_parts z ⟧ ∗ ⟦ Mine ⟧ ⊢ asks 𝓛 (block_ptr b o) f always after
+      by_holds = opened 𝓛 R Q cv holds out P z f after (⟦ last_parts z ⟧ ∗ ⟦ Mine ⟧) here law
 
   -- a look
   abbrev pub looked : ℕ → Fml
-  looked n = fsep (parts_if (not (eqb n 0)) z) (fsep (Over (eqb n 0)) Mine)
+  looked n = fsep (parts_if false (not (eqb n 0)) z) (fsep (Over (eqb n 0)) Mine)
 
   abbrev still : ℕ → ℕ
   still n = n
 
-  look_next : (s : State (Place R.Denot Q.Denot) V) (h : ℕ) (y : Bool) → eqb h 0 ≡ y → h < 9223372036854775808 → out (word_of s) ≡ 1 → (holds s × (get_elem? s.views id ≡ maybe.some
+  look_next : (s : State (Place R.Denot Q.Denot) V) (h : ℕ) (y : Bool) → eqb h 0 ≡ y → h < 9223372036854775808 → out (word_of s) ≡ 0 → (holds s × (get_elem? s.views id ≡ maybe.some
       me.0))
-      → ⟦ Counts true (word_of s) h ⟧ ∗ ⟦ parts z ⟧ ∗ ⟦ Around s ⟧ ∗ ⟦ Mine ⟧ ⊢ ⟦ word b o h ⟧ -∗ Ended 𝓛 I b o still looked h
+      → ⟦ Counts true (word_of s) h ⟧ ∗ ⟦ last_parts z ⟧ ∗ ⟦ Around s ⟧ ∗ ⟦ Mine ⟧ ⊢ ⟦ word b o h ⟧ -∗ Ended 𝓛 I b o still looked h
   look_next s h true e few one at = ends_all still looked s h Mine (is_eq h 0 e) one at (qed 𝓛 (‵ (Over true) ∷ ‵ Mine ∷ []) ∵
-      fjoin ! $ nothing ! $ fjoin ! $ rewrite ! 0 (λ (y : Bool). ‵ (fsep (parts_if (not y) z) (fsep (Over y) Mine))) (sym e) refl $ done !)
-  look_next s h false e few one at = qed 𝓛 (‵ (Counts true (word_of s) h) ∷ ‵ (parts z) ∷ ‵ (Around s) ∷ ‵ Mine ∷ []) ∵ assume ! (‵ (word b o h)) $
+      fjoin ! $ nothing ! $ fjoin ! $ rewrite ! 0 (λ (y : Bool). ‵ (fsep (parts_if false (not y) z) (fsep (Over y) Mine))) (sym e) refl $ done !)
+  look_next s h false e few one at = qed 𝓛 (‵ (Counts true (word_of s) h) ∷ ‵ (last_parts z) ∷ ‵ (Around s) ∷ ‵ Mine ∷ []) ∵ assume ! (‵ (word b o h)) $
       show ! (λ (ls : List ℕ). Ends 𝓛 I b o still looked ls h) [] $
       -- [the holds; the counts; the parts; what is around; the seat]
-      nothing ! $ move ! (0 ∷ 5 ∷ []) $ fjoin ! $ move ! (3 ∷ 0 ∷ []) $ fjoin ! $ rewrite ! 0 (λ (y : Bool). ‵ (fsep (parts_if (not y) z) (fsep (Over y) Mine))) (sym e) refl $
+      nothing ! $ move ! (0 ∷ 5 ∷ []) $ fjoin ! $ move ! (3 ∷ 0 ∷ []) $ fjoin ! $ rewrite ! 0 (λ (y : Bool). ‵ (fsep (parts_if false (not y) z) (fsep (Over y) Mine))) (sym e) refl $
       move ! (1 ∷ 2 ∷ 3 ∷ 0 ∷ []) $ by ! (goes_on 𝓛 R Q cv holds out P z still looked true s h h refl)
 
-  pub looks_last : A.inv I ∗ ⟦ parts z ⟧ ∗ ⟦ Mine ⟧ ⊢ asks 𝓛 (block_ptr b o) (λ n. n) always looked
+  pub looks_last : A.inv I ∗ ⟦ last_parts z ⟧ ∗ ⟦ Mine ⟧ ⊢ asks 𝓛 (block_ptr b o) (λ n. n) always looked
   looks_last = by_holds still looked look_next
 
   -- leaving
@@ -147,23 +146,21 @@ module _ {M : Type 1} {𝓤 : Ura M} (𝓛 : Logic 𝓤) (R Q : RattleType) {V :
   abbrev pub left : ℕ → Fml
   left n = fsep (Over (eqb n 0)) Mine
 
-  leave_next : (s : State (Place R.Denot Q.Denot) V) (h : ℕ) (y : Bool) → eqb h 0 ≡ y → h < 9223372036854775808 → out (word_of s) ≡ 1 → (holds s × (get_elem? s.views id ≡ maybe.some
+  leave_next : (s : State (Place R.Denot Q.Denot) V) (h : ℕ) (y : Bool) → eqb h 0 ≡ y → h < 9223372036854775808 → out (word_of s) ≡ 0 → (holds s × (get_elem? s.views id ≡ maybe.some
       me.0))
-      → ⟦ Counts true (word_of s) h ⟧ ∗ ⟦ parts z ⟧ ∗ ⟦ Around s ⟧ ∗ ⟦ Mine ⟧ ⊢ ⟦ word b o (more h) ⟧ -∗ Ended 𝓛 I b o more left h
+      → ⟦ Counts true (word_of s) h ⟧ ∗ ⟦ last_parts z ⟧ ∗ ⟦ Around s ⟧ ∗ ⟦ Mine ⟧ ⊢ ⟦ word b o (more h) ⟧ -∗ Ended 𝓛 I b o more left h
   leave_next s h true e few one at = ends_all more left s h Mine (is_eq h 0 e) one at (qed 𝓛 (‵ (Over true) ∷ ‵ Mine ∷ []) ∵ fjoin ! $
       rewrite ! 0 (λ (y : Bool). ‵ (fsep (Over y) Mine)) (sym e) refl $ done !)
-  leave_next s h false e few one at = let D' : Pr = A.dead (stay z) in let N : Pr = Ends 𝓛 I b o more left [] h in let C : Fml = Counts false (word_of s) (h + 9223372036854775808) in
-      let is : more h ≡ h + 9223372036854775808 = omega arith in
-      qed 𝓛 (‵ (Counts true (word_of s) h) ∷ ‵ (parts z) ∷ ‵ (Around s) ∷ ‵ Mine ∷ []) ∵ use2 𝓛 (given (h < 9223372036854775808) (‵ (flft (stay z) full_share) ⊛
-      raw (D' -∗ ⟦ C ⟧))) (counting.departs 𝓛 R Q cv holds out P z (word_of s) h one (positive h (not_eq h 0 e))) $ learn ! (λ _. split ! $ assume ! (‵ (word b o (more h))) $
-      show ! (λ (ls : List ℕ). Ends 𝓛 I b o more left ls h) (z.tally ∷ []) $ suffices ! _ (upd_i 𝓤 (A.lft (stay z) full_share ∗ (D' -∗ N))) $ move ! (1 ∷ []) $ frame ! $
-      assume ! (‵ (fdead (stay z))) $
-      -- [over; the holds; the counts' way; what is around; the seat]
-      move ! (0 ∷ 2 ∷ []) $ use2 𝓛 (‵ C) (base.Logic.apply∗ 𝓤 D' ⟦ C ⟧) $ nothing ! $ move ! (0 ∷ 4 ∷ []) $ fjoin ! $ rewrite ! 0 (λ (y : Bool). ‵ (fsep (Over y) Mine))
-      (sym e) refl $ move ! (2 ∷ 1 ∷ 3 ∷ 0 ∷ []) $ by ! (goes_on 𝓛 R Q cv holds out P z more left false s h (h + 9223372036854775808) is))
+  leave_next s h false e few one at = let C : Fml = Counts false (word_of s) (h + 9223372036854775808) in let is : more h ≡ h + 9223372036854775808 = omega arith in
+      qed 𝓛 (‵ (Counts true (word_of s) h) ∷ ‵ (last_parts z) ∷ ‵ (Around s) ∷ ‵ Mine ∷ []) ∵
+      use2 𝓛 (‵ C) (counting.departs 𝓛 R Q cv holds out P z (word_of s) h one (positive h (not_eq h 0 e))) $ assume ! (‵ (word b o (more h))) $
+      show ! (λ (ls : List ℕ). Ends 𝓛 I b o more left ls h) [] $
+      -- [the holds; the counts; what is around; the seat]
+      nothing ! $ move ! (0 ∷ 4 ∷ []) $ fjoin ! $ rewrite ! 0 (λ (y : Bool). ‵ (fsep (Over y) Mine)) (sym e) refl $ move ! (1 ∷ 2 ∷ 3 ∷ 0 ∷ []) $
+      by ! (goes_on 𝓛 R Q cv holds out P z more left false s h (h + 9223372036854775808) is)
     where
       positive : (n : ℕ) → ¬ (n ≡ 0) → 0 < n
       positive n ne = omega (arith, ne)
 
-  pub leaves_last : A.inv I ∗ ⟦ parts z ⟧ ∗ ⟦ Mine ⟧ ⊢ asks 𝓛 (block_ptr b o) more always left
+  pub leaves_last : A.inv I ∗ ⟦ last_parts z ⟧ ∗ ⟦ Mine ⟧ ⊢ asks 𝓛 (block_ptr b o) more always left
   leaves_last = by_holds more left leave_next

@@ -21,7 +21,7 @@ use Rattle.atomic_table.specs.Table.{State, Me, keeps, stepped, Enters, Splits}
 use Rattle.atomic_table.specs.Seated.{word, fact, seen, roster}
 use Rattle.atomic_table.proofs.Roster.{Moved, moves, Joined, joins}
 use Rattle.counted_block.specs.declared.place.Place.{Place}
-use Rattle.counted_block.specs.Blocks.{BlockId, life, stay, word_of, Fits, shelf, seat_owns, words_in, views_in, counted, standing, ghostly, stands, block}
+use Rattle.counted_block.specs.Blocks.{BlockId, life, of_shares, gripped, closed, word_of, Fits, shelf, seat_owns, words_in, views_in, counted, standing, ghostly, stands, block}
 use Rattle.counted_block.specs.Counts.{Notes}
 use Rattle.counted_block.proofs.Moving.{body, Next, opened}
 use Rattle.counted_block.proofs.Counting as counting
@@ -57,11 +57,14 @@ module _ {M : Type 1} {𝓤 : Ura M} (𝓛 : Logic 𝓤) (R Q : RattleType) {V :
 
   module _ (q : Share) where
     abbrev pub token : Fml
-    token = flft (stay z) q
+    token = gripped z.grips of_shares q
+
+    abbrev here : (Z : Pr) → ⟦ token ⟧ ∗ ⟦ closed z ⟧ ⊢ Z
+    here = counting.share_closed 𝓛 R Q cv holds out P z q
 
     -- a look that tells nothing
     pub glances : A.inv J ∗ ⟦ token ⟧ ⊢ asks 𝓛 (block_ptr z.block (z.offset + 0)) (λ n. n) always (λ _. token)
-    glances = opened 𝓛 R Q cv holds out P z (λ n. n) (λ _. token) ⟦ token ⟧ (counting.token_dead 𝓛 z.tally q) (λ s h so small. let Z : Pr = ex 𝓤 (Next 𝓛 R Q cv holds out P z
+    glances = opened 𝓛 R Q cv holds out P z (λ n. n) (λ _. token) ⟦ token ⟧ here (λ s h so small. let Z : Pr = ex 𝓤 (Next 𝓛 R Q cv holds out P z
         (λ n. n) (λ _. token) s h) in
         qed 𝓛 (‵ (body 𝓛 R Q cv holds out P z (word_of s) h s) ∷ ‵ token ∷ []) ∵ suffices ! _ (upd_i 𝓤 Z) $ show ! (Next 𝓛 R Q cv holds out P z (λ n. n) (λ _. token) s h) s $
         check ! (set_own s.words, so.0, so.2) $ done !)
@@ -71,19 +74,21 @@ module _ {M : Type 1} {𝓤 : Ura M} (𝓛 : Logic 𝓤) (R Q : RattleType) {V :
       seated n t = fsep (fact (then n t.1)) (seat_owns R Q z cv.code t.0 (t.1, []))
 
       abbrev pub entered : ℕ → Fml
-      entered n = fsep token (fex (ℕ × V) (seated n))
+      entered n = fsep (fsep (fact (0 < out n)) token) (fex (ℕ × V) (seated n))
 
       -- a new seat, at a load
       pub enters : A.inv J ∗ ⟦ token ⟧ ⊢ asks 𝓛 (block_ptr z.block (z.offset + 0)) (λ n. n) always entered
-      enters = opened 𝓛 R Q cv holds out P z (λ n. n) entered ⟦ token ⟧ (counting.token_dead 𝓛 z.tally q) (λ s h so small. let n : ℕ = word_of s in let r = asked s so.0 so.2 small in
+      enters = opened 𝓛 R Q cv holds out P z (λ n. n) entered ⟦ token ⟧ here (λ s h so small. let n : ℕ = word_of s in let r = asked s so.0 so.2 small in
           let u : V = r.0 in let t : State S V = record { words = s.words; homes = s.homes; views = s.views ++ u ∷ [] } in
-          let Z : Pr = ex 𝓤 (Next 𝓛 R Q cv holds out P z (λ n. n) entered s h) in qed 𝓛 (‵ (body 𝓛 R Q cv holds out P z n h s) ∷ ‵ token ∷ []) ∵ fsplit3 ! $ move ! (2 ∷ []) $
+          let Z : Pr = ex 𝓤 (Next 𝓛 R Q cv holds out P z (λ n. n) entered s h) in qed 𝓛 (‵ (body 𝓛 R Q cv holds out P z n h s) ∷ ‵ token ∷ []) ∵ fsplit3 ! $ move ! (0 ∷ 3 ∷ []) $
+          use2 𝓛 (given (0 < out n) (‵ (counted R Q cv.code holds out P z true n h) ⊛ ‵ token)) (counting.live 𝓛 R Q cv holds out P z n h q) $ learn ! (λ live. split ! $
+          move ! (3 ∷ 0 ∷ 2 ∷ []) $
           use1 𝓛 (raw (upd 𝓤 (ex 𝓤 (Joined 𝓛 cv γ 0 s.views u)))) (joins 𝓛 cv γ s.views 0 u) $ settle 𝓛 Z (some (λ (j : ℕ). ‵ (roster cv.code γ 0 t.views) ⊛
           ‵ (seen cv.code γ j three_quarters u))) $ suffices ! _ (upd_i 𝓤 Z) $ pick ! (λ j. split ! $
           -- [the roster; the view; the counts; the slots; the token]
           show ! (Next 𝓛 R Q cv holds out P z (λ n. n) entered s h) t $ check ! (set_own s.words, r.1, so.2) $ move ! (3 ∷ 0 ∷ []) $ fjoin ! $ move ! (2 ∷ 0 ∷ []) $ fjoin ! $ frame ! $
-          nothing ! $ move ! (1 ∷ 0 ∷ []) $ fjoin ! $ nothing ! $ fpack ! (then n u) (λ _. ftrue) r.2 $ fjoin ! $ fpack ! (ℕ × V) (seated n) (j, u) $ move ! (1 ∷ 0 ∷ []) $ fjoin ! $
-          done !))
+          nothing ! $ move ! (1 ∷ 0 ∷ []) $ fjoin ! $ nothing ! $ fpack ! (then n u) (λ _. ftrue) r.2 $ fjoin ! $ fpack ! (ℕ × V) (seated n) (j, u) $ nothing ! $
+          fpack ! (0 < out n) (λ _. ftrue) live $ move ! (0 ∷ 2 ∷ []) $ fjoin ! $ fjoin ! $ done !)))
 
   -- the invariant is opened beside the machine, whether the block stands or is gone; only the views change
   module _ (K after : Fml) (law : (s : State S V) → word_of s < 18446744073709551616 → ⟦ Views s ⟧ ∗ ⟦ K ⟧ ⊢ upd 𝓤 (ex 𝓤 (λ (t : State S V). guard 𝓤 ((t.words ≡ s.words) ×
@@ -107,8 +112,8 @@ module _ {M : Type 1} {𝓤 : Ura M} (𝓛 : Logic 𝓤) (R Q : RattleType) {V :
         rewrite ! 5 (λ (m : ℕ). ‵ (counted R Q cv.code holds out P z y m h)) same refl $ move ! (2 ∷ 3 ∷ []) $ fjoin ! $ move ! (0 ∷ 1 ∷ []) $ fjoin ! $ move ! (2 ∷ 3 ∷ 0 ∷ []) $
         fjoin3 ! $ fpack ! (Bool × (State S V × ℕ)) (standing R Q cv.code holds out P z) (y, (t, h)) $ fpack ! Bool (stands R Q cv.code holds out P z) true $ done !)))
 
-    once_gone : (s : State S V) → ⟦ ghostly R Q cv.code holds out P z s ⟧ ∗ ⟦ K ⟧ ∗ A.dead (life z) ∗ A.dead (stay z) ⊢ upd 𝓤 Z
-    once_gone s = let n : ℕ = word_of s in qed 𝓛 (‵ (ghostly R Q cv.code holds out P z s) ∷ ‵ K ∷ ‵ (fdead (life z)) ∷ ‵ (fdead (stay z)) ∷ []) ∵ fsplit ! $
+    once_gone : (s : State S V) → ⟦ ghostly R Q cv.code holds out P z s ⟧ ∗ ⟦ K ⟧ ∗ A.dead (life z) ∗ ⟦ closed z ⟧ ⊢ upd 𝓤 Z
+    once_gone s = let n : ℕ = word_of s in qed 𝓛 (‵ (ghostly R Q cv.code holds out P z s) ∷ ‵ K ∷ ‵ (fdead (life z)) ∷ ‵ (closed z) ∷ []) ∵ fsplit ! $
         fpick ! (λ small. drop ! $
         use2 𝓛 (raw (upd 𝓤 (ex 𝓤 (After s)))) (law s small) $ settle 𝓛 Z (some (λ (t : State S V). given ((t.words ≡ s.words) × (t.homes ≡ s.homes)) (‵ (Views t) ⊛ ‵ after))) $
         suffices ! _ (upd_i 𝓤 Z) $ pick ! (λ t. learn ! (λ as_before. split ! $ let same : n ≡ word_of t = ap (λ (ws : List ℕ). get_or ws 0 0) (sym as_before.0) in nothing ! $

@@ -1,12 +1,12 @@
 -- A fetch: a step on the word, by a reference to a share and one to a seat. One differs from another in the function that it calls. Assumes `Logic`.
-use Rattle.counted_block.proofs.Names.{◌≡◌, ℕ, ◌+◌, ◌^◌, List, [], ◌∷◌, sym, refl, lit<, w64, named, dcons, dnil, Val, vint, vptr, SProp, emp, Lft, Fml, flft, fhide, finv, ‵}
-use Rattle.counted_block.proofs.Names.{raw, ◌⊛◌, mean, at_ret, ◌$◌, ◌∵◌, !, qed, by, move, keep, drop, split, split3, join, fsplit, fsplit3, fjoin, fjoin3, fpick, use0, use1, use3}
-use Rattle.counted_block.proofs.Names.{via, rewrite, feq_i, flt_i, stop, hop, fld, addr, lit, of_opd, no_more, and_then, first, blocks, exec, Calls-last, returns, enter, alloc_all, pass_all, get}
-use Rattle.counted_block.proofs.Names.{free_all, look_at, through, sets, lands_last, env, agg, sub, whole, look_in, tables, yes, RattleType, owns, types_at, plain, Ptr, block_ptr, nothing, peeks}
-use Rattle.counted_block.proofs.Names.{looks, shuts, opens, closes, unhide, Is, shows, cell_at, hidden_shr, param, bounded, RefOf, shr_vals, shr_Tells, mut_vals, mut_Tells, shr_bor-open, obor_close}
-use Rattle.counted_block.proofs.Names.{tokens_halve, Stays, stay_dropped, stay_ref, walk_of, Goes-dropped, Goes-ref, after, proved, leaves, fm, seq_cst, found, finds, u64, uint_vals, uint_Tells, Me}
-use Rattle.counted_block.proofs.Names.{step, Allows, Place, BlockId, stay, seat_owns, block, Same, content, share_shown, tokens, ShareData, share_opens, kept_inv, eight, share_lent, pair_at, ent}
-use Rattle.counted_block.proofs.Names.{sep, ptr_val, lone}
+use Rattle.counted_block.proofs.Names.{◌≡◌, ℕ, ◌+◌, ◌^◌, List, [], ◌∷◌, sym, refl, lit<, w64, named, dcons, dnil, Val, vint, vptr, SProp, emp, Lft, Fml, flft, fhide, finv, ‵, raw, ◌⊛◌, mean}
+use Rattle.counted_block.proofs.Names.{at_ret, ◌$◌, ◌∵◌, !, qed, by, move, keep, drop, split, split3, join, fsplit, fsplit3, fjoin, fjoin3, fpick, use0, use1, use3, via, rewrite, feq_i}
+use Rattle.counted_block.proofs.Names.{flt_i, stop, hop, fld, addr, lit, of_opd, no_more, and_then, first, blocks, exec, Calls-last, returns, enter, alloc_all, pass_all, get, free_all}
+use Rattle.counted_block.proofs.Names.{look_at, through, sets, lands_last, env, agg, sub, whole, look_in, tables, yes, RattleType, owns, types_at, plain, Ptr, block_ptr, nothing, peeks}
+use Rattle.counted_block.proofs.Names.{looks, shuts, opens, closes, unhide, Is, shows, cell_at, hidden_shr, param, bounded, RefOf, shr_vals, shr_Tells, mut_vals, mut_Tells, shr_bor-open}
+use Rattle.counted_block.proofs.Names.{obor_close, Stays, stay_dropped, stay_ref, walk_of, Goes-dropped, Goes-ref, after, proved, leaves, fm, seq_cst, found, finds, u64, uint_vals}
+use Rattle.counted_block.proofs.Names.{uint_Tells, Me, step, Allows, Place, BlockId, seat_owns, block, Same, content, share_shown, tokens, ShareData, share_opens, kept_inv, eight}
+use Rattle.counted_block.proofs.Names.{share_lent, pair_at, ent, sep, ptr_val, lone, halve, of_shares, gripped}
 use seplogic.Ra.Ura.{Ura}
 use types.Logic.{Logic}
 use Rattle.std.proofs.Common.{◌<◌}
@@ -76,7 +76,7 @@ module _ {M : Type 1} {𝓤 : Ura M} (𝓛 : Logic 𝓤) (𝓜 : Model 𝓤 𝓛
 
     abbrev pub Told : Type 1
     Told = (κs : Lfts 10) (a : Args promise.signature κs) (gh : (claims κs a).ghost) (n : ℕ) (u : At) → a.1.0.now.block ≡ a.0.now.id
-        → m.then a.0.now.key (step 2 0 a.1.1.0 0 maybe.none) a.1.0.now.me n u → let t : SeatRow.Denot = record { marker = a.1.0.now.marker; block = a.0.now.id; id = a.1.0.now.id; me = u } in
+        → m.then a.0.now.key (step 2 0 a.1.1.0 0 maybe.none) a.1.0.now.me n u → 0 < g.out n → let t : SeatRow.Denot = record { marker = a.1.0.now.marker; block = a.0.now.id; id = a.1.0.now.id; me = u } in
         ent 𝓤 (emp 𝓤) ((claims κs a).ensures gh n (at_exit promise κs a (tt, (t, (tt, tt)))))
 
     pub fetched : (one : mir.Fn) (c self_name : mir.Callee) → ((p : Ptr) (w : ℕ) → w < 2 ^ 64 → (after : ℕ → Fml)
@@ -90,7 +90,7 @@ module _ {M : Type 1} {𝓤 : Ura M} (𝓛 : Logic 𝓤) (𝓜 : Model 𝓤 𝓛
         proved 𝓛 promise staying claims 𝓜 𝓡 (Goes-dropped 𝓛 10 self yes (λ κs x f. refl), (Goes-ref 𝓛 10 1 tt by_mut, (Goes-dropped 𝓛 10 number yes (λ κs x f. refl), tt)))
         self_name (routine one c) closed (λ κs. (shr_vals, (mut_vals, (uint_vals w64, tt)))) (λ κs. (shr_Tells (named 0) κs.0 OwnRow, (mut_Tells (named 1) κs.1.0 SeatRow, (uint_Tells w64, tt))))
         (λ κs qs bounds a gh are. let self_block : ℕ = a.0.ref_ptr.0 in let self_offset : ℕ = a.0.ref_ptr.1 in let κ : Lft = κs.0 in let s : OwnRow.Denot = a.0.now in let p : Ptr = s.at in
-        let x : R.Denot = s.value in let k = h.dealloc_token s.heap in let z : BlockId = s.id in let β : Lft = stay z in let seat_block : ℕ = a.1.0.ref_ptr.0 in
+        let x : R.Denot = s.value in let k = h.dealloc_token s.heap in let z : BlockId = s.id in let seat_block : ℕ = a.1.0.ref_ptr.0 in
         let seat_offset : ℕ = a.1.0.ref_ptr.1 in let t : SeatRow.Denot = a.1.0.now in let id : ℕ = t.id in let v : At = t.me in let w : ℕ = a.1.1.0 in let f : ℕ → ℕ = does w in
         let then : ℕ → At → Type 0 = m.then a.0.now.key (step 2 0 w 0 maybe.none) v in let Beside : Fml = tokens 8 κs.1.1 qs.1.1 in let pb : ℕ = z.block in let e : ℕ = z.offset + 0 in
         let P : Fml = content S W R k z x in let holds = g.holds s.key in let J : Fml = block S W V.coded.code holds g.out P z in let start : (walk_of 𝓛 promise staying claims).Ghost =
@@ -110,17 +110,17 @@ module _ {M : Type 1} {𝓤 : Ura M} (𝓛 : Logic 𝓤) (𝓜 : Model 𝓤 𝓛
         rewrite ! 1 (λ (ws : List Val). ‵ (cell_at q D.mir ws self_block self_offset)) ev refl $ first ! $ blocks ! $
         sets ! (addr ! (through ! refl (fld ! refl (hop ! (look_in ! 1 (sub ! 0 refl (whole !))) (fld ! refl (stop !)))))) refl (tt, tt) $
         rewrite ! 1 (λ (ws : List Val). ‵ (cell_at q D.mir ws self_block self_offset)) (sym ev) refl $ move ! (1 ∷ 0 ∷ 2 ∷ []) $ shuts ! tt D q (p, (tt, tt)) vs self_block self_offset $
-        -- [the token; the fields; the tally's token, lent; the invariant; the seat, in two; its token; the others]
-        move ! (2 ∷ 0 ∷ []) $ shr_bor-open ! tt (tokens_halve 𝓛 β) (λ r. let out : ℕ → Fml = moving.after 𝓛 S W V.coded holds g.out P z id v f then allows (λ _. flft β r) in
+        -- [the token; the fields; the grips, lent; the invariant; the seat, in two; its token; the others]
+        move ! (2 ∷ 0 ∷ []) $ shr_bor-open ! tt (halve 𝓛 z.grips of_shares) (λ r. let out : ℕ → Fml = moving.after 𝓛 S W V.coded holds g.out P z id v f then allows (moving.at_live 𝓛 S W V.coded holds g.out P z r) in
         move ! (4 ∷ 5 ∷ 6 ∷ []) $ opens ! tt SeatRow seat_block seat_offset (λ bits. move ! (1 ∷ []) $ fsplit ! $ rewrite ! 1 (λ (w : BlockId). ‵ (seat_owns S W w V.coded.code id v)) same
         refl $ move ! (9 ∷ 7 ∷ 1 ∷ []) $ use3 𝓛 (raw (machine.C _ (vptr pb e ∷ vint w64 w ∷ seq_cst ∷ []) (λ u. mean 𝓛 (found out u)))) (via 𝓤 _ (moving.looks 𝓛 S W V.coded
         holds g.out P z id v f then allows r counted) (calls (block_ptr pb e) w are.1.1.0.1 out)) $ sets ! (agg ! (and_then ! (lit ! tt) (no_more !))) refl (tt, (record { fits = lit< tt }, tt)) $
         Calls-last ! (fm 𝓛 𝓜 𝓡) (found out) (and_then ! (get ! refl) (and_then ! (get ! refl) (and_then ! (get ! refl) (no_more !)))) (λ u. finds ! out (λ n fits. lands_last ! refl
         (tt, record { fits = fits }) $ exec ! machine.C machine.Λ here (after 1 (routine one c).body) (at_ret here returned) $ sets ! (of_opd ! (get ! refl)) refl (tt, record { fits = fits }) $
-        fsplit ! $ move ! (7 ∷ 0 ∷ []) $ obor_close ! tt $ drop ! $ move ! (1 ∷ []) $ fpick ! (λ v'. fsplit ! $ fpick ! (λ so. drop ! $
+        fsplit ! $ fsplit ! $ fpick ! (λ live. drop ! $ move ! (7 ∷ 0 ∷ []) $ obor_close ! tt $ drop ! $ move ! (1 ∷ []) $ fpick ! (λ v'. fsplit ! $ fpick ! (λ so. drop ! $
         let t' : SeatRow.Denot = record { marker = t.marker; block = z; id = id; me = v' } in move ! (2 ∷ 0 ∷ []) $ fjoin ! $ move ! (2 ∷ 0 ∷ 3 ∷ 4 ∷ 5 ∷ []) $
         closes ! tt SeatRow t' bits seat_block seat_offset $ feq_i ! (List Val) (vptr seat_block seat_offset ∷ []) (vptr seat_block seat_offset ∷ []) refl $ fjoin3 ! $ nothing ! $ nothing ! $
         fjoin ! $ move ! (1 ∷ 0 ∷ []) $ fjoin ! $ nothing ! $ fjoin ! $ move ! (1 ∷ 4 ∷ []) $ join ! $ move ! (2 ∷ 0 ∷ []) $ join ! $
-        use0 𝓛 (raw ((claims κs a).ensures gh n (at_exit promise κs a (tt, (t', (tt, tt)))))) (told κs a gh n v' same so) $ flt_i ! n (2 ^ 64) fits $
+        use0 𝓛 (raw ((claims κs a).ensures gh n (at_exit promise κs a (tt, (t', (tt, tt)))))) (told κs a gh n v' same so live) $ flt_i ! n (2 ^ 64) fits $
         feq_i ! (List Val) (vint w64 n ∷ []) (vint w64 n ∷ []) refl $ fjoin ! $ returns ! (look_at ! 0 refl) $ free_all ! refl $ keep ! (2 ∷ 3 ∷ 0 ∷ 1 ∷ []) $
-        by ! (leaves 𝓛 promise staying claims start (vint w64 n) n (tt, (t', (tt, tt))) (tt, (tt, (tt, tt))))))))))))))))
+        by ! (leaves 𝓛 promise staying claims start (vint w64 n) n (tt, (t', (tt, tt))) (tt, (tt, (tt, tt)))))))))))))))))

@@ -21,9 +21,10 @@ use Rattle.std.specs.contracts.marker.PhantomData as phantom
 use Rattle.std.specs.declared.alloc.Allocator as Alloc
 use Rattle.counted_block.specs.declared.rule.BlockRule.{Ghosts}
 use Rattle.counted_block.specs.Blocks.{BlockId, place}
-use Rattle.counted_block.specs.Held.{kept_of, share_shown, hold_shown}
+use Rattle.counted_block.specs.Held.{kept_of, share_shown, hold_shown, last_shown}
 use Rattle.counted_block.specs.contracts.share.Share as share
 use Rattle.counted_block.specs.contracts.hold.Hold as hold
+use Rattle.counted_block.specs.contracts.last.LastShare as last
 use Rattle.counted_block.specs.contracts.seat.Ledger as ledger
 
 abbrev pub nil_val : Val
@@ -76,6 +77,9 @@ module _ (S W V K Y T' A : RattleType) (g : Ghosts Y.Denot S.Denot W.Denot V.Den
   abbrev pub HoldData : RattleType
   HoldData = Struct (shape (hold.the_type S W V K Y T' A g h))
 
+  abbrev pub LastData : RattleType
+  LastData = Struct (shape (last.the_type S W V K Y T' A g h))
+
   abbrev pub LedgerData : RattleType
   LedgerData = Struct (shape (ledger.the_type S W V K Y T' A g h))
 
@@ -89,6 +93,10 @@ module _ (S W V K Y T' A : RattleType) (g : Ghosts Y.Denot S.Denot W.Denot V.Den
         (sep 𝓤 (sem 𝓛 (hidden_shr HoldData κ (s.at, (tt, tt)) b o)) (sem 𝓛 (fhide (hold_shown S W T' V.coded.code (g.holds s.key) g.out (h.dealloc_token s.heap) s.id s.value s.at κ))))
     hold_lent κ s b o = id⊢ 𝓤 _
 
+    pub last_lent : (κ : Lft) (s : (last.the_row S W V K Y T' A g h).Denot) (b o : ℕ) → ent 𝓤 (sem 𝓛 (hidden_shr (last.the_row S W V K Y T' A g h) κ s b o))
+        (sep 𝓤 (sem 𝓛 (hidden_shr LastData κ (s.at, (tt, tt)) b o)) (sem 𝓛 (fhide (last_shown S W T' V.coded.code (g.holds s.key) g.out (h.dealloc_token s.heap) s.id s.value s.at κ))))
+    last_lent κ s b o = id⊢ 𝓤 _
+
     pub ledger_lent : (κ : Lft) (s : (ledger.the_row S W V K Y T' A g h).Denot) (b o : ℕ) → ent 𝓤 (sem 𝓛 (hidden_shr (ledger.the_row S W V K Y T' A g h) κ s b o))
         (sep 𝓤 (sem 𝓛 (hidden_shr LedgerData κ (tt, tt) b o)) (sem 𝓛 (fhide (kept_of S W T' V.coded.code (g.holds s.key) g.out (h.dealloc_token s.heap) s.id s.value))))
     ledger_lent κ s b o = id⊢ 𝓤 _
@@ -99,4 +107,8 @@ module _ (S W V K Y T' A : RattleType) (g : Ghosts Y.Denot S.Denot W.Denot V.Den
 
     pub hold_opens : Opens 𝓛 HoldData
     hold_opens = (Struct-Copied 𝓛 (shape (hold.the_type S W V K Y T' A g h)) (refl, (refl, tt))
+        (RawPtr-copy.copied M 𝓤 𝓛, ((field_copy (phantom.the_type (Tuple (V ∷ K ∷ Y ∷ A ∷ []))) tt).copied M 𝓤 𝓛, tt))).opens
+
+    pub last_opens : Opens 𝓛 LastData
+    last_opens = (Struct-Copied 𝓛 (shape (last.the_type S W V K Y T' A g h)) (refl, (refl, tt))
         (RawPtr-copy.copied M 𝓤 𝓛, ((field_copy (phantom.the_type (Tuple (V ∷ K ∷ Y ∷ A ∷ []))) tt).copied M 𝓤 𝓛, tt))).opens

@@ -25,7 +25,7 @@ use Rattle.std.specs.Sync.RawAtomic.{asks, always}
 use Rattle.atomic_table.specs.Table.{State}
 use Rattle.atomic_table.specs.Seated.{word}
 use Rattle.counted_block.specs.declared.place.Place.{Place}
-use Rattle.counted_block.specs.Blocks.{BlockId, life, stay, grips_left, hold_parts, hold_parts_if, word_of, Fits, Known, shelf, views_in, counted, lent, standing, ghostly, stands, block, remaining}
+use Rattle.counted_block.specs.Blocks.{BlockId, life, of_holds, of_shares, gripped, closed, grips_left, hold_parts, hold_parts_if, word_of, Fits, Known, shelf, views_in, counted, lent, standing, ghostly, stands, block, remaining}
 use Rattle.counted_block.specs.Blocks.{remains, remains_if}
 use Rattle.counted_block.proofs.Opening.{Lies, Ends, Ended, entered}
 use Rattle.counted_block.proofs.Counting as counting
@@ -84,9 +84,9 @@ module _ {M : Type 1} {𝓤 : Ura M} (𝓛 : Logic 𝓤) (R Q : RattleType) {V :
   around s = fsep (word b (z.offset + 0) (word_of s)) (fsep (fsep (shelf R Q z 0 s.homes) (lent R Q cv.code holds out P z)) (views_in R Q cv.code holds out P z s))
 
   -- the block is over: the invariant has the views alone, and the rest goes
-  pub over : (seat : Option (ℕ × V)) (s : State S V) (m : ℕ) → (holds s → Known holds seat s) → ⟦ word b o m ⟧ ∗ A.dead (life z) ∗ A.dead (stay z) ∗ ⟦ around s ⟧ ⊢ ⟦ J ⟧
+  pub over : (seat : Option (ℕ × V)) (s : State S V) (m : ℕ) → (holds s → Known holds seat s) → ⟦ word b o m ⟧ ∗ A.dead (life z) ∗ ⟦ closed z ⟧ ∗ ⟦ around s ⟧ ⊢ ⟦ J ⟧
       ∗ ⟦ remains R Q cv.code holds out P z seat ⟧
-  over seat s m known = let n : ℕ = word_of s in let e : ℕ = z.offset + 0 in qed 𝓛 (‵ (word b o m) ∷ ‵ (fdead (life z)) ∷ ‵ (fdead (stay z)) ∷ ‵ (around s) ∷ []) ∵
+  over seat s m known = let n : ℕ = word_of s in let e : ℕ = z.offset + 0 in qed 𝓛 (‵ (word b o m) ∷ ‵ (fdead (life z)) ∷ ‵ (closed z) ∷ ‵ (around s) ∷ []) ∵
       move ! (3 ∷ []) $ fsplit3 ! $ move ! (2 ∷ []) $ fsplit ! $ move ! (1 ∷ []) $ fpick ! (λ so. drop ! $
       -- [the roster; the word; the slots and what is lent; the holds; over, twice]
       move ! (1 ∷ []) $ use1 𝓛 (given (lib.Dec.T (has_ty (ty_int w64) (vint w64 n)) × WT (vint w64 n)) (‵ (word b e n))) (𝓛.laws.at_wt full_share (ty_int w64) b e (vint w64 n)) $
@@ -105,7 +105,7 @@ module _ {M : Type 1} {𝓤 : Ura M} (𝓛 : Logic 𝓤) (R Q : RattleType) {V :
         move ! (2 ∷ []) $ fsplit ! $ move ! (0 ∷ 2 ∷ []) $ fjoin ! $ move ! (0 ∷ 2 ∷ 1 ∷ []) $ fjoin3 ! $ fpack ! (Bool × (State S V × ℕ)) (standing R Q cv.code holds out P z)
         (y, (s, m)) $ fpack ! Bool (stands R Q cv.code holds out P z) true $ done !
 
-    module _ (E : Pr) (here : (Z : Pr) → E ∗ A.dead (life z) ∗ A.dead (stay z) ⊢ Z)
+    module _ (E : Pr) (here : (Z : Pr) → E ∗ A.dead (life z) ∗ ⟦ closed z ⟧ ⊢ Z)
         (law : (y : Bool) (s : State S V) (h : ℕ) → h < 18446744073709551616 → ⟦ Counts y (word_of s) h ⟧ ∗ E ∗ ⟦ around s ⟧ ⊢ ⟦ word b o (f h) ⟧ -∗ Ended 𝓛 J b o f after
         h) where
       abbrev G : Pr
@@ -127,7 +127,7 @@ module _ {M : Type 1} {𝓤 : Ura M} (𝓛 : Logic 𝓤) (R Q : RattleType) {V :
   -- one hold more, by a share
   module _ (q : Share) where
     abbrev pub token : Fml
-    token = flft (stay z) q
+    token = gripped z.grips of_shares q
 
     abbrev pub with_hold : ℕ → Fml
     with_hold n = fsep token (hold_parts_if (not (eqb n 9223372036854775807)) z)
@@ -146,15 +146,15 @@ module _ {M : Type 1} {𝓤 : Ura M} (𝓛 : Logic 𝓤) (R Q : RattleType) {V :
     hold_law : (y : Bool) (s : State S V) (h : ℕ) → h < 18446744073709551616 → ⟦ Counts y (word_of s) h ⟧ ∗ ⟦ token ⟧ ∗ ⟦ around s ⟧ ⊢ ⟦ word b o (bump h) ⟧ -∗ Ended 𝓛
         J b o bump with_hold h
     hold_law false s h small = qed 𝓛 (‵ (Counts false (word_of s) h) ∷ ‵ token ∷ ‵ (around s) ∷ []) ∵ fsplit3 ! $ move ! (1 ∷ []) $ fsplit ! $ keep ! (4 ∷ 1 ∷ []) $
-        by ! (counting.token_dead 𝓛 z.tally q _)
+        by ! (counting.share_closed 𝓛 R Q cv holds out P z q _)
     hold_law true s h small = qed 𝓛 (‵ (Counts true (word_of s) h) ∷ ‵ token ∷ ‵ (around s) ∷ []) ∵ fsplit ! $ fpick ! (λ few. drop ! $ nothing ! $
         fpack ! (h < 9223372036854775808) (λ _. ftrue) few $ fjoin ! $
         use1 𝓛 (‵ (Counts true (word_of s) (bump h)) ⊛ ‵ (hold_parts_if (not (eqb h 9223372036854775807)) z)) (held_by s h (eqb h 9223372036854775807) refl few) $ split ! $
         assume ! (‵ (word b o (bump h))) $ show ! (λ (ls : List ℕ). Ends 𝓛 J b o bump with_hold ls h) [] $ move ! (3 ∷ 2 ∷ []) $ fjoin ! $ move ! (1 ∷ 2 ∷ 3 ∷ 0 ∷ []) $
         by ! (goes_on bump with_hold true s h (bump h) refl))
 
-    token_here : (Z : Pr) → ⟦ token ⟧ ∗ A.dead (life z) ∗ A.dead (stay z) ⊢ Z
-    token_here Z = qed 𝓛 (‵ token ∷ ‵ (fdead (life z)) ∷ ‵ (fdead (stay z)) ∷ []) ∵ keep ! (0 ∷ 2 ∷ []) $ by ! (counting.token_dead 𝓛 z.tally q Z)
+    token_here : (Z : Pr) → ⟦ token ⟧ ∗ A.dead (life z) ∗ ⟦ closed z ⟧ ⊢ Z
+    token_here Z = qed 𝓛 (‵ token ∷ ‵ (fdead (life z)) ∷ ‵ (closed z) ∷ []) ∵ keep ! (0 ∷ 2 ∷ []) $ by ! (counting.share_closed 𝓛 R Q cv holds out P z q Z)
 
     pub holds_more : A.inv J ∗ ⟦ token ⟧ ⊢ asks 𝓛 (block_ptr b o) bump always with_hold
     holds_more = opened bump with_hold ⟦ token ⟧ token_here hold_law
@@ -167,18 +167,18 @@ module _ {M : Type 1} {𝓤 : Ura M} (𝓛 : Logic 𝓤) (R Q : RattleType) {V :
   released n = remains_if R Q cv.code holds out P z (eqb n 9223372036854775809) none
 
   lasts_by : (s : State S V) (h : ℕ) (y : Bool) → eqb h 9223372036854775809 ≡ y → 9223372036854775808 < h → h < 18446744073709551616
-      → ⟦ rest 64 z.age (h - 9223372036854775808) ⟧ ∗ ⟦ part 64 z.age ⟧ ∗ A.dead (stay z) ∗ ⟦ grips_left z.grips (h - 9223372036854775808 - 1) ⟧ ∗ ⟦ around s ⟧
+      → ⟦ rest 64 z.age (h - 9223372036854775808) ⟧ ∗ ⟦ part 64 z.age ⟧ ∗ ⟦ closed z ⟧ ∗ ⟦ grips_left z.grips of_holds (h - 9223372036854775808 - 1) ⟧ ∗ ⟦ around s ⟧
       ⊢ ⟦ word b o (fewer h) ⟧ -∗ Ended 𝓛 J b o fewer released h
   lasts_by s h true e big small = let at : h ≡ 9223372036854775809 = is_eq h 9223372036854775809 e in let one : h - 9223372036854775808 ≡ 1 = omega arith in
-      qed 𝓛 (‵ (rest 64 z.age (h - 9223372036854775808)) ∷ ‵ (part 64 z.age) ∷ ‵ (fdead (stay z)) ∷ ‵ (grips_left z.grips (h - 9223372036854775808 - 1)) ∷ ‵ (around s) ∷ []) ∵
+      qed 𝓛 (‵ (rest 64 z.age (h - 9223372036854775808)) ∷ ‵ (part 64 z.age) ∷ ‵ (closed z) ∷ ‵ (grips_left z.grips of_holds (h - 9223372036854775808 - 1)) ∷ ‵ (around s) ∷ []) ∵
       rewrite ! 0 (λ (k : ℕ). ‵ (rest 64 z.age k)) one refl $ use2 𝓛 (‵ (flft (life z) full_share)) (counts.whole 64 𝓛 z.age) $ assume ! (‵ (word b o (fewer h))) $
       show ! (λ (ls : List ℕ). Ends 𝓛 J b o fewer released ls h) (z.age ∷ []) $ let D : Pr = A.dead (life z) in let N : Pr = Ends 𝓛 J b o fewer released [] h in
       suffices ! _ (upd_i 𝓤 (A.lft (life z) full_share ∗ (D -∗ N))) $ move ! (1 ∷ []) $ frame ! $ assume ! (‵ (fdead (life z))) $
       -- [over; the holds; over; the grips; what is around]
       let Z : Pr = ⟦ J ⟧ ∗ ⟦ released h ⟧ in suffices ! _ (upd_i 𝓤 Z) $ keep ! (1 ∷ 0 ∷ 2 ∷ 4 ∷ []) $ by ! (subst (λ (y : Bool). ⟦ word b o (fewer h) ⟧ ∗ D
-      ∗ A.dead (stay z) ∗ ⟦ around s ⟧ ⊢ ⟦ J ⟧ ∗ ⟦ remains_if R Q cv.code holds out P z y none ⟧) (sym e) (over none s (fewer h) (λ k. k)))
+      ∗ ⟦ closed z ⟧ ∗ ⟦ around s ⟧ ⊢ ⟦ J ⟧ ∗ ⟦ remains_if R Q cv.code holds out P z y none ⟧) (sym e) (over none s (fewer h) (λ k. k)))
   lasts_by s h false e big small = let ne = not_eq h 9223372036854775809 e in let many : 9223372036854775809 < h = above h big ne in let is : fewer h ≡ h - 1 = omega arith in
-      qed 𝓛 (‵ (rest 64 z.age (h - 9223372036854775808)) ∷ ‵ (part 64 z.age) ∷ ‵ (fdead (stay z)) ∷ ‵ (grips_left z.grips (h - 9223372036854775808 - 1)) ∷ ‵ (around s) ∷ []) ∵
+      qed 𝓛 (‵ (rest 64 z.age (h - 9223372036854775808)) ∷ ‵ (part 64 z.age) ∷ ‵ (closed z) ∷ ‵ (grips_left z.grips of_holds (h - 9223372036854775808 - 1)) ∷ ‵ (around s) ∷ []) ∵
       types.Kit.group ! 4 $ use1 𝓛 (‵ (Counts false (word_of s) (h - 1))) (counting.hold_stays 𝓛 R Q cv holds out P z (word_of s) h many small) $ assume ! (‵ (word b o (fewer h))) $
       show ! (λ (ls : List ℕ). Ends 𝓛 J b o fewer released ls h) [] $ nothing ! $ rewrite ! 0 (λ (y : Bool). ‵ (remains_if R Q cv.code holds out P z y none)) (sym e) refl $
       move ! (1 ∷ 2 ∷ 3 ∷ 0 ∷ []) $ by ! (goes_on fewer released false s h (h - 1) is)
@@ -198,12 +198,12 @@ module _ {M : Type 1} {𝓤 : Ura M} (𝓛 : Logic 𝓤) (R Q : RattleType) {V :
       [] $ nothing ! $ rewrite ! 0 (λ (y : Bool). ‵ (remains_if R Q cv.code holds out P z y none)) (sym (small_no h (eqb h 9223372036854775809) refl some_out.1)) refl $
       move ! (1 ∷ 2 ∷ 3 ∷ 0 ∷ []) $ by ! (goes_on fewer released true s h (h - 1) is))
   release_law false s h small = qed 𝓛 (‵ (Counts false (word_of s) h) ∷ ‵ (hold_parts z) ∷ ‵ (around s) ∷ []) ∵
-      use2 𝓛 (given ((9223372036854775808 < h) × (h < 18446744073709551616)) (‵ (rest 64 z.age (h - 9223372036854775808)) ⊛ ‵ (part 64 z.age) ⊛ ‵ (fdead (stay z)) ⊛
-      ‵ (grips_left z.grips (h - 9223372036854775808 - 1)))) (counting.hold_less 𝓛 R Q cv holds out P z false (word_of s) h) $ learn ! (λ at. split3 ! $ move ! (2 ∷ []) $ split ! $
+      use2 𝓛 (given ((9223372036854775808 < h) × (h < 18446744073709551616)) (‵ (rest 64 z.age (h - 9223372036854775808)) ⊛ ‵ (part 64 z.age) ⊛ ‵ (closed z) ⊛
+      ‵ (grips_left z.grips of_holds (h - 9223372036854775808 - 1)))) (counting.hold_less 𝓛 R Q cv holds out P z false (word_of s) h) $ learn ! (λ at. split3 ! $ move ! (2 ∷ []) $ split ! $
       move ! (2 ∷ 3 ∷ 0 ∷ 1 ∷ 4 ∷ []) $ by ! (lasts_by s h (eqb h 9223372036854775809) refl at.0 at.1))
 
-  hold_here : (Z : Pr) → ⟦ hold_parts z ⟧ ∗ A.dead (life z) ∗ A.dead (stay z) ⊢ Z
-  hold_here Z = qed 𝓛 (‵ (hold_parts z) ∷ ‵ (fdead (life z)) ∷ ‵ (fdead (stay z)) ∷ []) ∵ fsplit ! $ keep ! (0 ∷ 2 ∷ []) $ by ! (counting.part_dead 𝓛 z.age 64 Z)
+  hold_here : (Z : Pr) → ⟦ hold_parts z ⟧ ∗ A.dead (life z) ∗ ⟦ closed z ⟧ ⊢ Z
+  hold_here Z = qed 𝓛 (‵ (hold_parts z) ∷ ‵ (fdead (life z)) ∷ ‵ (closed z) ∷ []) ∵ fsplit ! $ keep ! (0 ∷ 2 ∷ []) $ by ! (counting.part_dead 𝓛 z.age 64 Z)
 
   pub releases : A.inv J ∗ ⟦ hold_parts z ⟧ ⊢ asks 𝓛 (block_ptr b o) fewer always released
   releases = opened fewer released ⟦ hold_parts z ⟧ hold_here release_law

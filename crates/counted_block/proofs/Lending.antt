@@ -1,10 +1,10 @@
--- A share, a hold and a ledger are lent. Assumes `Logic`.
+-- A share, a hold, the last share and a ledger are lent. Assumes `Logic`.
 use Rattle.std.proofs.Common.{ℕ, [], ◌∷◌}
 use seplogic.Ra.Ura.{Ura}
 use base.FractionLaws.{Counts}
 use base.Stored.{Gv}
 use base.Logic.{ent, sep, wand, upd_i, id⊢, apply∗}
-use base.Fml.{Lft, Share, Fml, ftrue, fsep, fseps, fwand, fupd, fdead, fbor, flft}
+use base.Fml.{Lft, Share, Fml, ftrue, fsep, fex, fseps, fwand, fupd, fdead, fbor, flft}
 use contract.BorrowLft.{meet_⊑_left}
 use ghost.Rules.{span, thinned}
 use types.Logic.{Logic, sem, lfts}
@@ -20,7 +20,7 @@ use denote.Steps.{nothing}
 use denote.Struct.Lending.{Lends}
 use Rattle.atomic_table.specs.Table.{State}
 use Rattle.counted_block.specs.declared.place.Place.{Place}
-use Rattle.counted_block.specs.Blocks.{BlockId, life, stay, grip, kept, share_owns, share_shares, hold_owns, hold_shares}
+use Rattle.counted_block.specs.Blocks.{BlockId, life, gripped, kept, owner_owns, owner_shares}
 use Rattle.counted_block.proofs.Keeping as keeping
 use Rattle.counted_block.proofs.Signs.{Signs, signs}
 
@@ -40,25 +40,17 @@ module _ (R Q : RattleType) {V : Type 0} (c : V → Gv) (holds : State (Place R.
   abbrev K : Fml
   K = kept R Q c holds out P z
 
-  abbrev owns : Fml
-  owns = share_owns K t z
+  module _ (much : Share → Type 0) (k : ℕ) where
+    abbrev owns : Fml
+    owns = owner_owns K t much k z
 
-  abbrev shows : Lft → Fml
-  shows = share_shares K t z
+    abbrev shows : Lft → Fml
+    shows = owner_shares K t much k z
 
-  abbrev holder : Fml
-  holder = hold_owns K t z
-
-  abbrev seen_held : Lft → Fml
-  seen_held = hold_shares K t z
-
-  pub shows_laws : ShrLaws shows
-  shows_laws = beside_shr_laws (beside (one (λ q. flft (life z) q)) (one (λ q. flft (stay z) q))) (beside (λ _. K) (held (life z) t))
-      (beside_shr_laws (one (λ q. flft (life z) q)) (one (λ q. flft (stay z) q)) (one_shr_laws (λ q. flft (life z) q)) (one_shr_laws (λ q. flft (stay z) q)))
-      (beside_shr_laws (λ _. K) (held (life z) t) (keeping.kept_laws R Q c holds out P z) (held_shr_laws (life z) t L))
-
-  pub held_laws : ShrLaws seen_held
-  held_laws = beside_shr_laws (one (λ q. flft (life z) q)) (held (life z) t) (one_shr_laws (λ q. flft (life z) q)) (held_shr_laws (life z) t L)
+    pub shows_laws : ShrLaws shows
+    shows_laws = beside_shr_laws (beside (one (λ q. flft (life z) q)) (one (λ q. gripped z.grips k q))) (beside (λ _. K) (held (life z) t))
+        (beside_shr_laws (one (λ q. flft (life z) q)) (one (λ q. gripped z.grips k q)) (one_shr_laws (λ q. flft (life z) q)) (one_shr_laws (λ q. gripped z.grips k q)))
+        (beside_shr_laws (λ _. K) (held (life z) t) (keeping.kept_laws R Q c holds out P z) (held_shr_laws (life z) t L))
 
   module _ {M : Type 1} {𝓤 : Ura M} (𝓛 : Logic 𝓤) where
     open 𝓛 use {H, A}
@@ -68,52 +60,6 @@ module _ (R Q : RattleType) {V : Type 0} (c : V → Gv) (holds : State (Place R.
 
     open 𝓝 use {⟦◌⟧, ◌⊢◌, ◌∗◌}
 
-    share_back : (κ : Lft) (e d : Share) → Counts 64 e 1 → Counts 62 d 1 → ⟦ K ⟧ ∗ ⟦ t (life z) ⟧ ⊢ ⟦ fwand (fsep (fdead κ) (fseps (flft (life z) e ∷ flft (stay z) d ∷ [])))
-        (fupd owns) ⟧
-    unfolding fseps
-    share_back κ e d ce cd = qed 𝓛 (‵ K ∷ ‵ (t (life z)) ∷ []) ∵ assume ! (‵ (fsep (fdead κ) (fsep (flft (life z) e) (fsep (flft (stay z) d) ftrue)))) $
-        suffices ! ⟦ owns ⟧ (upd_i 𝓤 ⟦ owns ⟧) $
-        fsplit ! $ drop ! $ fsplit3 ! $ use1 𝓛 (‵ (part 64 z.age)) (part_in 64 𝓛 z.age e ce) $ move ! (1 ∷ []) $ use1 𝓛 (‵ (part 62 z.tally)) (part_in 62 𝓛 z.tally d cd) $
-        move ! (1 ∷ 0 ∷ []) $ fjoin ! $ keep ! (0 ∷ 2 ∷ 3 ∷ []) $ fjoin3 ! $ done !
-
-    share_by_token : (κ : Lft) (q : Share) → A.bor κ owns ∗ A.lft κ q ⊢ H.⇛ (⟦ shows κ ⟧ ∗ A.lft κ q)
-    unfolding fseps
-    share_by_token κ q = qed 𝓛 (‵ (fbor κ owns) ∷ ‵ (flft κ q) ∷ []) ∵ updating ! $ bor_open ! tt $ move ! (1 ∷ []) $ fsplit3 ! $ fsplit ! $
-        fpick ! (λ e. fpick ! (λ ce. move ! (1 ∷ []) $ fpick ! (λ d. fpick ! (λ cd. move ! (2 ∷ []) $
-        -- [what is kept; the tally's token; the age's token; the value; the open borrow]
-        use1 𝓛 (‵ K ⊛ ‵ K) (keeping.kept_twice R Q c holds out P z 𝓛) $ split ! $ move ! (4 ∷ []) $ use1 𝓛 (‵ (t (life z)) ⊛ ‵ (t (life z))) (contraction 𝓛 t L (life z)) $
-        split ! $ move ! (2 ∷ 0 ∷ []) $ use2 𝓛 (‵ (fwand (fsep (fdead κ) (fseps (flft (life z) e ∷ flft (stay z) d ∷ []))) (fupd owns))) (share_back κ e d ce cd) $
-        -- [the way back; the value; what is kept; the tally's token; the age's token; the open borrow]
-        nothing ! $ move ! (4 ∷ 0 ∷ []) $ fjoin ! $ move ! (4 ∷ 0 ∷ []) $ fjoin ! $ move ! (4 ∷ 0 ∷ 1 ∷ []) $ obor_alter ! tt (flft (life z) e ∷ flft (stay z) d ∷ []) $
-        use1 𝓛 (‵ (fbor κ (flft (life z) e)) ⊛ ‵ (fbor κ (flft (stay z) d)) ⊛ ‵ ftrue) (id⊢ 𝓤 _) $ split3 ! $ bor_fracture ! tt (λ r. flft (life z) r) e $ move ! (1 ∷ []) $
-        bor_fracture ! tt (λ r. flft (stay z) r) d $
-        -- [the tally; the age; nothing; the token; the value; what is kept]
-        move ! (1 ∷ 0 ∷ []) $ fjoin ! $ move ! (0 ∷ 4 ∷ 3 ∷ []) $ fjoin3 ! $ now ! $ keep ! (0 ∷ 2 ∷ []) $ done !))))
-
-    pub lends_share : (l : Lft) → Lends 𝓛 owns shows l
-    lends_share l = lends_by 𝓛 owns shows l share_by_token
-
-    hold_back : (κ : Lft) (e : Share) → Counts 64 e 1 → ⟦ K ⟧ ∗ ⟦ t (life z) ⟧ ∗ ⟦ grip z.grips ⟧ ⊢ ⟦ fwand (fsep (fdead κ) (fseps (flft (life z) e ∷ []))) (fupd holder)
-        ⟧
-    unfolding fseps
-    hold_back κ e ce = qed 𝓛 (‵ K ∷ ‵ (t (life z)) ∷ ‵ (grip z.grips) ∷ []) ∵ assume ! (‵ (fsep (fdead κ) (fsep (flft (life z) e) ftrue))) $
-        suffices ! ⟦ holder ⟧ (upd_i 𝓤 ⟦ holder ⟧) $
-        fsplit3 ! $ move ! (1 ∷ []) $ use1 𝓛 (‵ (part 64 z.age)) (part_in 64 𝓛 z.age e ce) $ move ! (0 ∷ 5 ∷ []) $ fjoin ! $ keep ! (0 ∷ 3 ∷ 4 ∷ []) $ fjoin3 ! $ done !
-
-    hold_by_token : (κ : Lft) (q : Share) → A.bor κ holder ∗ A.lft κ q ⊢ H.⇛ (⟦ seen_held κ ⟧ ∗ A.lft κ q)
-    unfolding fseps
-    hold_by_token κ q = qed 𝓛 (‵ (fbor κ holder) ∷ ‵ (flft κ q) ∷ []) ∵ updating ! $ bor_open ! tt $ move ! (1 ∷ []) $ fsplit3 ! $ fsplit ! $
-        fpick ! (λ e. fpick ! (λ ce. move ! (3 ∷ []) $
-        -- [the value; the token; the grip; what is kept; the open borrow]
-        use1 𝓛 (‵ (t (life z)) ⊛ ‵ (t (life z))) (contraction 𝓛 t L (life z)) $ split ! $ move ! (4 ∷ 0 ∷ 3 ∷ []) $
-        types.Kit.use3 𝓛 (‵ (fwand (fsep (fdead κ) (fseps (flft (life z) e ∷ []))) (fupd holder))) (hold_back κ e ce) $
-        -- [the way back; the value; the token; the open borrow]
-        nothing ! $ move ! (3 ∷ 0 ∷ []) $ fjoin ! $ move ! (3 ∷ 0 ∷ 1 ∷ []) $ obor_alter ! tt (flft (life z) e ∷ []) $ use1 𝓛 (‵ (fbor κ (flft (life z) e)) ⊛ ‵ ftrue)
-        (id⊢ 𝓤 _) $ split ! $ bor_fracture ! tt (λ r. flft (life z) r) e $ move ! (0 ∷ 3 ∷ []) $ fjoin ! $ now ! $ keep ! (0 ∷ 2 ∷ []) $ done !))
-
-    pub lends_hold : (l : Lft) → Lends 𝓛 holder seen_held l
-    lends_hold l = lends_by 𝓛 holder seen_held l hold_by_token
-
     kept_by_token : (κ : Lft) (q : Share) → A.bor κ K ∗ A.lft κ q ⊢ H.⇛ (⟦ K ⟧ ∗ A.lft κ q)
     kept_by_token κ q = qed 𝓛 (‵ (fbor κ K) ∷ ‵ (flft κ q) ∷ []) ∵ updating ! $ bor_open ! tt $ move ! (1 ∷ []) $ use1 𝓛 (‵ K ⊛ ‵ K) (keeping.kept_twice R Q c holds out P z
         𝓛) $ split ! $ move ! (2 ∷ 0 ∷ []) $ obor_close ! tt $ now ! $ keep ! (2 ∷ 1 ∷ []) $ done !
@@ -121,9 +67,32 @@ module _ (R Q : RattleType) {V : Type 0} (c : V → Gv) (holds : State (Place R.
     pub lends_kept : (l : Lft) → Lends 𝓛 K (λ _. K) l
     lends_kept l = lends_by 𝓛 K (λ _. K) l kept_by_token
 
-    pub share_sees : (κ : Lft) → ⟦ shows κ ⟧ ⊢ ⟦ t κ ⟧
-    share_sees κ = qed 𝓛 (‵ (shows κ) ∷ []) ∵ fsplit ! $ fsplit ! $ move ! (2 ∷ []) $ fsplit ! $ keep ! (2 ∷ 1 ∷ []) $
-        by ! (moves_from 𝓛 t L κ (life z) (life z) (meet_⊑_left (life z) κ))
+    module _ (much : Share → Type 0) (k : ℕ) where
+      owner_back : (κ : Lft) (e d : Share) → Counts 64 e 1 → much d → ⟦ K ⟧ ∗ ⟦ t (life z) ⟧ ⊢ ⟦ fwand (fsep (fdead κ) (fseps (flft (life z) e ∷ gripped z.grips k d ∷ [])))
+          (fupd (owns much k)) ⟧
+      unfolding fseps
+      owner_back κ e d ce cd = qed 𝓛 (‵ K ∷ ‵ (t (life z)) ∷ []) ∵ assume ! (‵ (fsep (fdead κ) (fsep (flft (life z) e) (fsep (gripped z.grips k d) ftrue)))) $
+          suffices ! ⟦ owns much k ⟧ (upd_i 𝓤 ⟦ owns much k ⟧) $
+          fsplit ! $ drop ! $ fsplit3 ! $ use1 𝓛 (‵ (part 64 z.age)) (part_in 64 𝓛 z.age e ce) $ move ! (1 ∷ []) $ fpack ! (much d) (λ _. gripped z.grips k d) cd $ fpack ! Share (λ q. fex (much q) (λ _. gripped z.grips k q)) d $
+          move ! (1 ∷ 0 ∷ []) $ fjoin ! $ keep ! (0 ∷ 2 ∷ 3 ∷ []) $ fjoin3 ! $ done !
 
-    pub hold_sees : (κ : Lft) → ⟦ seen_held κ ⟧ ⊢ ⟦ t κ ⟧
-    hold_sees κ = qed 𝓛 (‵ (seen_held κ) ∷ []) ∵ fsplit ! $ by ! (moves_from 𝓛 t L κ (life z) (life z) (meet_⊑_left (life z) κ))
+      owner_by_token : (κ : Lft) (q : Share) → A.bor κ (owns much k) ∗ A.lft κ q ⊢ H.⇛ (⟦ shows much k κ ⟧ ∗ A.lft κ q)
+      unfolding fseps
+      owner_by_token κ q = qed 𝓛 (‵ (fbor κ (owns much k)) ∷ ‵ (flft κ q) ∷ []) ∵ updating ! $ bor_open ! tt $ move ! (1 ∷ []) $ fsplit3 ! $ fsplit ! $
+          fpick ! (λ e. fpick ! (λ ce. move ! (1 ∷ []) $ fpick ! (λ d. fpick ! (λ cd. move ! (2 ∷ []) $
+          -- [what is kept; the grip; the age's token; the value; the open borrow]
+          use1 𝓛 (‵ K ⊛ ‵ K) (keeping.kept_twice R Q c holds out P z 𝓛) $ split ! $ move ! (4 ∷ []) $ use1 𝓛 (‵ (t (life z)) ⊛ ‵ (t (life z))) (contraction 𝓛 t L (life z)) $
+          split ! $ move ! (2 ∷ 0 ∷ []) $ use2 𝓛 (‵ (fwand (fsep (fdead κ) (fseps (flft (life z) e ∷ gripped z.grips k d ∷ []))) (fupd (owns much k)))) (owner_back κ e d ce cd) $
+          -- [the way back; the value; what is kept; the grip; the age's token; the open borrow]
+          nothing ! $ move ! (4 ∷ 0 ∷ []) $ fjoin ! $ move ! (4 ∷ 0 ∷ []) $ fjoin ! $ move ! (4 ∷ 0 ∷ 1 ∷ []) $ obor_alter ! tt (flft (life z) e ∷ gripped z.grips k d ∷ []) $
+          use1 𝓛 (‵ (fbor κ (flft (life z) e)) ⊛ ‵ (fbor κ (gripped z.grips k d)) ⊛ ‵ ftrue) (id⊢ 𝓤 _) $ split3 ! $ bor_fracture ! tt (λ r. flft (life z) r) e $ move ! (1 ∷ []) $
+          bor_fracture ! tt (λ r. gripped z.grips k r) d $
+          -- [the grip; the age; nothing; the token; the value; what is kept]
+          move ! (1 ∷ 0 ∷ []) $ fjoin ! $ move ! (0 ∷ 4 ∷ 3 ∷ []) $ fjoin3 ! $ now ! $ keep ! (0 ∷ 2 ∷ []) $ done !))))
+
+      pub lends_owner : (l : Lft) → Lends 𝓛 (owns much k) (shows much k) l
+      lends_owner l = lends_by 𝓛 (owns much k) (shows much k) l owner_by_token
+
+      pub owner_sees : (κ : Lft) → ⟦ shows much k κ ⟧ ⊢ ⟦ t κ ⟧
+      owner_sees κ = qed 𝓛 (‵ (shows much k κ) ∷ []) ∵ fsplit ! $ fsplit ! $ move ! (2 ∷ []) $ fsplit ! $ keep ! (2 ∷ 1 ∷ []) $
+          by ! (moves_from 𝓛 t L κ (life z) (life z) (meet_⊑_left (life z) κ))

@@ -1,5 +1,5 @@
 -- A step on a block's word by a seat. Assumes `Logic`.
-use Rattle.std.proofs.Common.{◌≡◌, ℕ, ◌+◌, ◌^◌, ◌<◌, Bool, true, false, List, [], ◌∷◌, length, get_or, set, sym, refl, ap, ◌∙◌, subst, arith, length-set, w64}
+use Rattle.std.proofs.Common.{◌≡◌, ℕ, ◌+◌, ◌^◌, ◌<◌, Bool, true, false, eqb, List, [], ◌∷◌, length, get_or, set, sym, refl, ap, ◌∙◌, subst, arith, length-set, w64}
 use mathlib.Core.Bool.{not}
 use mathlib.Core.Option as maybe
 use lib.ListN.{get_elem?}
@@ -10,7 +10,7 @@ use base.Fraction.{full_share}
 use base.Share.{three_quarters}
 use base.Stored.{Coded}
 use base.Logic.{SProp, ex, all, guard, upd, all_e, upd_i}
-use base.Fml.{Share, Fml, ftrue, fsep, fex, flft, fdead}
+use base.Fml.{Share, Fml, ftrue, fsep, fex}
 use types.Logic.{Logic}
 use types.Kit.{‵, raw, ◌⊛◌, some, given, ◌$◌, ◌∵◌, !, qed, by, move, keep, drop, split, fsplit, fsplit3, fjoin, fjoin3, fpick, fpack, pick, learn, show, check, frame, assume, done}
 use types.Kit.{suffices, settle, use1, use2, rewrite}
@@ -22,7 +22,7 @@ use Rattle.atomic_table.specs.Table.{State, Me, Act, Allows, carried_after, step
 use Rattle.atomic_table.specs.Seated.{word, fact, seen, roster}
 use Rattle.atomic_table.proofs.Roster.{Moved, moves}
 use Rattle.counted_block.specs.declared.place.Place.{Place}
-use Rattle.counted_block.specs.Blocks.{BlockId, stay, parts, parts_if, word_of, Fits, shelf, carried, seat_owns, words_in, counted, standing, stands, block}
+use Rattle.counted_block.specs.Blocks.{BlockId, of_shares, of_last, gripped, parts, last_parts, parts_if, closed, word_of, Fits, shelf, carried, seat_owns, words_in, counted, standing, stands, block}
 use Rattle.counted_block.specs.Counts.{Same, More, Less}
 use Rattle.counted_block.proofs.Opening.{Lies, Ends, entered}
 use Rattle.counted_block.proofs.Shelves.{acts, same_size}
@@ -68,7 +68,7 @@ module _ {M : Type 1} {𝓤 : Ura M} (𝓛 : Logic 𝓤) (R Q : RattleType) {V :
   Next f after s h t = guard 𝓤 ((t.words ≡ set s.words 0 (f (word_of s))) × holds t × (length t.homes ≡ 2)) (⟦ body (f (word_of s)) h t ⟧ ∗ ⟦ after (word_of s) ⟧)
 
   -- whoever shows that the closer is here finds the word, and may go on by a state that keeps the rule
-  module _ (f : ℕ → ℕ) (after : ℕ → Fml) (E : Pr) (here : (Z : Pr) → E ∗ A.dead (stay z) ⊢ Z)
+  module _ (f : ℕ → ℕ) (after : ℕ → Fml) (E : Pr) (here : (Z : Pr) → E ∗ ⟦ closed z ⟧ ⊢ Z)
       (law : (s : State S V) (h : ℕ) → Fits holds s → word_of s < 2 ^ 64 → ⟦ body (word_of s) h s ⟧ ∗ E ⊢ upd 𝓤 (ex 𝓤 (Next f after s h))) where
     abbrev G : Pr
     G = ex 𝓤 (Lies 𝓛 J b o f after)
@@ -99,6 +99,18 @@ module _ {M : Type 1} {𝓤 : Ura M} (𝓛 : Logic 𝓤) (R Q : RattleType) {V :
     pub opened : A.inv J ∗ E ⊢ asks 𝓛 (block_ptr b o) f always after
     opened = entered 𝓛 J b o f after E (qed 𝓛 (‵ J ∷ raw E ∷ []) ∵ fpick ! (λ y. by ! (either_way y)))
 
+  -- what a part of the shares' grips shows
+  abbrev pub at_live : Share → ℕ → Fml
+  at_live q n = fsep (fact (0 < out n)) (gripped z.grips of_shares q)
+
+  -- what an attempt of the last share shows
+  abbrev pub at_last : Share → ℕ → Fml
+  at_last q n = fsep (fact (out n ≡ 0)) (gripped z.grips of_last q)
+
+  -- what the last share is once it is a share again
+  abbrev pub revived : ℕ → Fml
+  revived n = fsep (fact (out n ≡ 0)) (parts z)
+
   -- a seat goes on, with what else the step takes and gives: `before` beside what is not out of the counts, and `left` after it
   module _ (id : ℕ) (me : Me S V) (f : ℕ → ℕ) (told : ℕ → Me S V → Type 0) (asked : Allows holds 2 id me 0 f told) where
     abbrev pub goes : ℕ → Me S V → Fml
@@ -107,11 +119,11 @@ module _ {M : Type 1} {𝓤 : Ura M} (𝓛 : Logic 𝓤) (R Q : RattleType) {V :
     abbrev pub after : (ℕ → Fml) → ℕ → Fml
     after left n = fsep (left n) (fex (Me S V) (goes n))
 
-    moved : (before : Fml) (left : ℕ → Fml) → ((Z : Pr) → ⟦ before ⟧ ∗ A.dead (stay z) ⊢ Z)
+    moved : (before : Fml) (left : ℕ → Fml) → ((Z : Pr) → ⟦ before ⟧ ∗ ⟦ closed z ⟧ ⊢ Z)
         → ((s : State S V) (h : ℕ) → holds s → get_elem? s.views id ≡ maybe.some me.0 → ⟦ Counts true (word_of s) h ⟧ ∗ ⟦ before ⟧ ⊢ ⟦ Counts true (f (word_of s)) h ⟧
         ∗ ⟦ left (word_of s) ⟧) → A.inv J ∗ ⟦ before ⟧ ∗ ⟦ seat_owns R Q z cv.code id me ⟧ ⊢ asks 𝓛 (block_ptr b o) f always (after left)
     moved before left here trades = opened f (after left) (⟦ before ⟧ ∗ ⟦ seat_owns R Q z cv.code id me ⟧)
-        (λ Z. qed 𝓛 ((‵ before ⊛ ‵ (seat_owns R Q z cv.code id me)) ∷ ‵ (fdead (stay z)) ∷ []) ∵ split ! $ keep ! (0 ∷ 2 ∷ []) $ by ! (here Z)) (λ s h so small. let n : ℕ =
+        (λ Z. qed 𝓛 ((‵ before ⊛ ‵ (seat_owns R Q z cv.code id me)) ∷ ‵ (closed z) ∷ []) ∵ split ! $ keep ! (0 ∷ 2 ∷ []) $ by ! (here Z)) (λ s h so small. let n : ℕ =
         word_of s in let γ : ℕ = z.views in qed 𝓛 (‵ (body n h s) ∷ ‵ before ∷ ‵ (seat_owns R Q z cv.code id me) ∷ []) ∵ fsplit3 ! $ move ! (4 ∷ []) $ fsplit ! $
         move ! (4 ∷ 0 ∷ []) $ use2 𝓛 (given (get_elem? s.views id ≡ maybe.some me.0) (raw (all 𝓤 (Moved 𝓛 cv γ 0 s.views id id)))) (moves 𝓛 cv γ s.views 0 id id me.0
         (omega arith)) $ learn ! (λ at. let r = asked s so.0 so.2 at small in let u : V = r.0 in let a : Act S = r.1 in let t : State S V = stepped s 0 (f n) id me.1 u a in
@@ -125,31 +137,47 @@ module _ {M : Type 1} {𝓤 : Ura M} (𝓛 : Logic 𝓤) (R Q : RattleType) {V :
         move ! (2 ∷ 1 ∷ []) $ fjoin ! $ nothing ! $ fpack ! (told n me') (λ _. ftrue) r.4 $ fjoin ! $ fpack ! (Me S V) (goes n) me' $ move ! (1 ∷ 0 ∷ []) $ fjoin ! $ done !))
 
     module _ (q : Share) where
-      abbrev pub token : Fml
-      token = flft (stay z) q
+      abbrev token : Fml
+      token = gripped z.grips of_shares q
 
       -- as many shares are out as before
-      pub looks : Same holds out id me.0 f → A.inv J ∗ ⟦ token ⟧ ∗ ⟦ seat_owns R Q z cv.code id me ⟧ ⊢ asks 𝓛 (block_ptr b o) f always (after (λ _. token))
-      looks same = moved token (λ _. token) (counting.token_dead 𝓛 z.tally q) (λ s h so at. qed 𝓛 (‵ (Counts true (word_of s) h) ∷ ‵ token ∷ []) ∵
-          use1 𝓛 (‵ (Counts true (f (word_of s)) h)) (counting.same 𝓛 R Q cv holds out P z (word_of s) (f (word_of s)) h (same s so at)) $ done !)
+      pub looks : Same holds out id me.0 f → A.inv J ∗ ⟦ token ⟧ ∗ ⟦ seat_owns R Q z cv.code id me ⟧ ⊢ asks 𝓛 (block_ptr b o) f always (after (at_live q))
+      looks same = moved token (at_live q) (counting.share_closed 𝓛 R Q cv holds out P z q) (λ s h so at. let n : ℕ = word_of s in qed 𝓛 (‵ (Counts true n h) ∷ ‵ token ∷ []) ∵
+          use2 𝓛 (given (0 < out n) (‵ (Counts true n h) ⊛ ‵ token)) (counting.live 𝓛 R Q cv holds out P z n h q) $ learn ! (λ live. split ! $
+          use1 𝓛 (‵ (Counts true (f n) h)) (counting.same 𝓛 R Q cv holds out P z n (f n) h (same s so at)) $ frame ! $ nothing ! $ fpack ! (0 < out n) (λ _. ftrue) live $ fjoin ! $ done !))
 
       abbrev pub with_more : (ℕ → Bool) → ℕ → Fml
-      with_more counts n = fsep token (parts_if (counts n) z)
+      with_more counts n = fsep (at_live q n) (parts_if (counts n) false z)
 
       -- maybe one more, which the caller gets
       pub gains : (counts : ℕ → Bool) → More holds out id me.0 f counts → A.inv J ∗ ⟦ token ⟧ ∗ ⟦ seat_owns R Q z cv.code id me ⟧ ⊢ asks 𝓛 (block_ptr b o) f always
           (after (with_more counts))
-      gains counts more = moved token (with_more counts) (counting.token_dead 𝓛 z.tally q) (λ s h so at. let n : ℕ = word_of s in qed 𝓛 (‵ (Counts true n h) ∷ ‵ token ∷ []) ∵
-          use1 𝓛 (‵ (Counts true (f n) h) ⊛ ‵ (parts_if (counts n) z)) (counting.more_by 𝓛 R Q cv holds out P z n (f n) h (counts n) (more s so at)) $ split ! $ frame ! $
-          move ! (1 ∷ 0 ∷ []) $ fjoin ! $ done !)
+      gains counts more = moved token (with_more counts) (counting.share_closed 𝓛 R Q cv holds out P z q) (λ s h so at. let n : ℕ = word_of s in qed 𝓛 (‵ (Counts true n h) ∷ ‵ token ∷
+          []) ∵ use2 𝓛 (given (0 < out n) (‵ (Counts true n h) ⊛ ‵ token)) (counting.live 𝓛 R Q cv holds out P z n h q) $ learn ! (λ live. split ! $
+          use1 𝓛 (‵ (Counts true (f n) h) ⊛ ‵ (parts_if (counts n) false z)) (counting.more_by 𝓛 R Q cv holds out P z n (f n) h (counts n) (more s so at) live) $ split ! $ frame ! $
+          nothing ! $ fpack ! (0 < out n) (λ _. ftrue) live $ move ! (0 ∷ 2 ∷ []) $ fjoin ! $ fjoin ! $ done !))
 
-    parts_here : (Z : Pr) → ⟦ parts z ⟧ ∗ A.dead (stay z) ⊢ Z
-    parts_here Z = qed 𝓛 (‵ (parts z) ∷ ‵ (fdead (stay z)) ∷ []) ∵ fsplit ! $ keep ! (1 ∷ 2 ∷ []) $ by ! (counting.part_dead 𝓛 z.tally 62 Z)
+    abbrev pub kept_where : (ℕ → Bool) → (ℕ → Bool) → ℕ → Fml
+    kept_where counts lasts n = fsep (fact (0 < out n)) (parts_if (not (counts n)) (lasts n) z)
 
-    abbrev pub kept_where : (ℕ → Bool) → ℕ → Fml
-    kept_where counts n = parts_if (not (counts n)) z
+    -- maybe one less, which the caller had; if it was the last, the caller has the last share
+    pub ends_one : (counts lasts : ℕ → Bool) → Less holds out id me.0 f counts lasts → A.inv J ∗ ⟦ parts z ⟧ ∗ ⟦ seat_owns R Q z cv.code id me ⟧ ⊢ asks 𝓛 (block_ptr b o) f always
+        (after (kept_where counts lasts))
+    ends_one counts lasts less = moved (parts z) (kept_where counts lasts) (counting.parts_closed 𝓛 R Q cv holds out P z) (λ s h so at. let n : ℕ = word_of s in qed 𝓛 (‵ (Counts true n h) ∷ ‵ (parts z) ∷ []) ∵
+        use2 𝓛 (given (0 < out n) (‵ (Counts true n h) ⊛ ‵ (parts z))) (counting.live_parts 𝓛 R Q cv holds out P z n h) $ learn ! (λ live.
+        use1 𝓛 (‵ (Counts true (f n) h) ⊛ ‵ (parts_if (not (counts n)) (lasts n) z)) (counting.less_by 𝓛 R Q cv holds out P z n (f n) h (counts n) (lasts n) (less s so at)) $
+        split ! $ frame ! $ nothing ! $ fpack ! (0 < out n) (λ _. ftrue) live $ fjoin ! $ done !))
 
-    -- maybe one less, which the caller had
-    pub ends_one : (counts : ℕ → Bool) → Less holds out id me.0 f counts → A.inv J ∗ ⟦ parts z ⟧ ∗ ⟦ seat_owns R Q z cv.code id me ⟧ ⊢ asks 𝓛 (block_ptr b o) f always
-        (after (kept_where counts))
-    ends_one counts less = moved (parts z) (kept_where counts) parts_here (λ s h so at. let n : ℕ = word_of s in counting.less_by 𝓛 R Q cv holds out P z n (f n) h (counts n) (less s so at))
+    -- the last share looks
+    pub looks_alone : (q : Share) → ((n : ℕ) → f n ≡ n) → A.inv J ∗ ⟦ gripped z.grips of_last q ⟧ ∗ ⟦ seat_owns R Q z cv.code id me ⟧ ⊢ asks 𝓛 (block_ptr b o) f always
+        (after (at_last q))
+    looks_alone q still = let token : Fml = gripped z.grips of_last q in moved token (at_last q) (counting.last_closed 𝓛 R Q cv holds out P z q) (λ s h so at. let n : ℕ = word_of s in
+        qed 𝓛 (‵ (Counts true n h) ∷ ‵ token ∷ []) ∵ use2 𝓛 (given (out n ≡ 0) (‵ (Counts true n h) ⊛ ‵ token)) (counting.lone 𝓛 R Q cv holds out P z n h q) $
+        learn ! (λ none. split ! $ rewrite ! 0 (λ (m : ℕ). ‵ (Counts true m h)) (sym (still n)) refl $ frame ! $ nothing ! $ fpack ! (out n ≡ 0) (λ _. ftrue) none $ fjoin ! $ done !))
+
+    -- the last share becomes a share again
+    pub revives : ((n : ℕ) → out (f n) ≡ 1) → A.inv J ∗ ⟦ last_parts z ⟧ ∗ ⟦ seat_owns R Q z cv.code id me ⟧ ⊢ asks 𝓛 (block_ptr b o) f always (after revived)
+    revives one = moved (last_parts z) revived (counting.lone_closed 𝓛 R Q cv holds out P z) (λ s h so at. let n : ℕ = word_of s in qed 𝓛 (‵ (Counts true n h) ∷ ‵ (last_parts z) ∷ []) ∵
+        use2 𝓛 (given (out n ≡ 0) (‵ (Counts true n h) ⊛ ‵ (last_parts z))) (counting.lone_parts 𝓛 R Q cv holds out P z n h) $ learn ! (λ none.
+        use1 𝓛 (‵ (Counts true (f n) h) ⊛ ‵ (parts z)) (counting.revives 𝓛 R Q cv holds out P z n (f n) h none (one n)) $ split ! $ frame ! $ nothing ! $
+        fpack ! (out n ≡ 0) (λ _. ftrue) none $ fjoin ! $ done !))

@@ -16,6 +16,7 @@ pub use types.ByLocal.{alloc_all, pass_all, free_all, look_at, get, get_in, thro
 pub use types.Part.{agg, sub, whole, look_in}
 pub use types.Tokens.{shr_bor-open, obor_close}
 pub use types.Within.{tokens_halve}
+pub use Rattle.counted_block.proofs.Grips.{halve}
 pub use contract.Running.{tables}
 pub use contract.Monad.{fact, fact_i}
 pub use contract.BorrowLft.{◌⊑◌}
@@ -41,12 +42,12 @@ pub use Rattle.atomic_table.proofs.Walks.{proved, proved_at, leaves}
 pub use Rattle.atomic_table.proofs.Calls.{picked, fm, seq_cst, found, finds, loads, adds, subs, swaps, ands, ors, exchanges}
 pub use Rattle.atomic_table.specs.Table.{Me, step, rest, turned, opening, Allows, Enters, Splits, State, Final}
 pub use Rattle.counted_block.specs.declared.place.Place.{Place}
-pub use Rattle.counted_block.specs.Blocks.{BlockId, seat_owns, block, life, place, first_body, tracked, stay, parts, parts_if, words_in, word_of, Known, remains_if, hold_parts_if}
-pub use Rattle.counted_block.specs.Counts.{Notes, Less, Same, Last, More}
-pub use Rattle.counted_block.specs.Held.{content, kept_of, share_shown, value_there, slots_there, rebox, looked_at, hold_shown}
+pub use Rattle.counted_block.specs.Blocks.{BlockId, seat_owns, block, life, place, first_body, tracked, is_one, is_all, of_holds, of_shares, of_last, gripped, parts, parts_if, words_in, word_of, Known, remains_if, hold_parts_if}
+pub use Rattle.counted_block.specs.Counts.{Notes, Less, Same, More}
+pub use Rattle.counted_block.specs.Held.{content, kept_of, share_shown, value_there, slots_there, rebox, looked_at, hold_shown, last_shown}
 pub use Rattle.counted_block.proofs.Tokens.{tokens, seven, eight}
-pub use Rattle.counted_block.proofs.Fields.{PairData, MarkerData, pair_told, pair_at, pair_made, marker_made, ShareData, HoldData, LedgerData, share_lent, hold_lent, ledger_lent, share_opens}
-pub use Rattle.counted_block.proofs.Fields.{hold_opens, ptr_and_marker, marker_val, in_place, ptr_typed, pair_typed}
+pub use Rattle.counted_block.proofs.Fields.{PairData, MarkerData, pair_told, pair_at, pair_made, marker_made, ShareData, HoldData, LastData, LedgerData, share_lent, hold_lent, last_lent, ledger_lent, share_opens}
+pub use Rattle.counted_block.proofs.Fields.{hold_opens, last_opens, ptr_and_marker, marker_val, in_place, ptr_typed, pair_typed}
 pub use Rattle.counted_block.proofs.Keeping.{kept_inv, kept_shows, kept_twice}
 pub use types.SemTy.{Body}
 pub use denote.Follow.{follows}
@@ -63,7 +64,7 @@ pub use denote.SharingLaws.{contraction}
 pub use Rattle.std.specs.Box.Ownership.{box_owns}
 pub use Rattle.counted_block.proofs.Beginning.{first_counts, unnamed, begun}
 pub use Rattle.counted_block.proofs.Boxing.{unboxes, reboxes}
-pub use Rattle.counted_block.proofs.Lending.{share_sees, hold_sees}
+pub use Rattle.counted_block.proofs.Lending.{owner_sees}
 pub use Rattle.std.specs.Prelude.{bit_or, bit_and}
 pub use Rattle.core.proofs.mem.Param.{El, lawful, Good, one, opens_one}
 pub use Rattle.counted_block.proofs.Gathering.{gathers}

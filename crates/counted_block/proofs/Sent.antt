@@ -5,7 +5,7 @@ use mir.Syntax.{Ty}
 use mir.Raw.{raw as bare_ty}
 use base.Fraction.{full_share}
 use base.Stored.{Gv}
-use base.Fml.{Fml}
+use base.Fml.{Fml, Share}
 use base.Shift.{Keyless}
 use types.Keyed.{entry_keyless}
 use denote.RattleType.{RattleType}
@@ -20,8 +20,8 @@ use Rattle.atomic_table.proofs.Sent.{roster_keyless}
 use Rattle.counted_block.specs.declared.place.Place.{Place}
 use Rattle.counted_block.specs.declared.place.Place.TheVariants.{First, Second}
 use Rattle.counted_block.specs.Layout.{at_value}
-use Rattle.counted_block.specs.Blocks.{BlockId, life, place, first_body, second_body, tracked, home, shelf, carried, seat_owns, counted, lent, standing, stands, kept}
-use Rattle.counted_block.specs.Held.{content, share_of, share_shown, hold_of, hold_shown, kept_of}
+use Rattle.counted_block.specs.Blocks.{BlockId, life, of_holds, of_shares, of_last, unless_last, closed, place, first_body, second_body, tracked, home, shelf, carried, seat_owns, counted, lent, standing, stands, kept}
+use Rattle.counted_block.specs.Held.{content, owner_of, owner_shown, kept_of}
 use Rattle.counted_block.specs.contracts.inner.Inner as inner
 
 -- a program makes no such proof of a type that no thread of it takes
@@ -65,10 +65,17 @@ module _ (R Q : RattleType) (s : IsSend R) (s' : IsSend Q) (z : BlockId) where
   pub seat_keyless : {V : Type 0} (c : V → Gv) (id : ℕ) (me : Me (Place R.Denot Q.Denot) V) → Keyless (seat_owns R Q z c id me)
   seat_keyless c id me = (entry_keyless halved z.views id _, carried_keyless me.1)
 
+  unless_keyless : (n : ℕ) → Keyless (unless_last z n)
+  unless_keyless zero = tt
+  unless_keyless (suc n) = λ e q. entry_keyless halved z.grips of_last _
+
+  closed_keyless : Keyless (closed z)
+  closed_keyless = ((λ r f. entry_keyless halved z.grips of_shares _), (λ e q. entry_keyless halved z.grips of_last _))
+
   module _ {V : Type 0} (c : V → Gv) (holds : State (Place R.Denot Q.Denot) V → Type 0) (out : ℕ → ℕ) (P : Fml) (free : Keyless P) where
     counted_keyless : (y : Bool) (w h : ℕ) → Keyless (counted R Q c holds out P z y w h)
-    counted_keyless true w h = ((λ _. tt), (((λ r q. tt), (λ r q. tt)), λ r f. entry_keyless halved z.grips 0 _))
-    counted_keyless false w h = ((λ _. tt), (((λ r q. tt), tt), λ r f. entry_keyless halved z.grips 0 _))
+    counted_keyless true w h = ((λ _. tt), (((λ r q. tt), ((λ r f. entry_keyless halved z.grips of_shares _), unless_keyless (out w))), λ r f. entry_keyless halved z.grips of_holds _))
+    counted_keyless false w h = ((λ _. tt), (((λ r q. tt), closed_keyless), λ r f. entry_keyless halved z.grips of_holds _))
 
     lent_keyless : Keyless (lent R Q c holds out P z)
     lent_keyless = (free, (first_keyless, second_keyless))
@@ -78,7 +85,7 @@ module _ (R Q : RattleType) (s : IsSend R) (s' : IsSend Q) (z : BlockId) where
 
     stands_keyless : (y : Bool) → Keyless (stands R Q c holds out P z y)
     stands_keyless true = standing_keyless
-    stands_keyless false = ((tt, tt), λ t. ((λ _. tt), (roster_keyless c z.views 0 t.views, λ _. tt)))
+    stands_keyless false = ((tt, closed_keyless), λ t. ((λ _. tt), (roster_keyless c z.views 0 t.views, λ _. tt)))
 
     kept_keyless : Keyless (kept R Q c holds out P z)
     kept_keyless = stands_keyless
@@ -104,14 +111,9 @@ module _ (R Q T A : RattleType) (h : Ghosts A.Denot) (f : Frees h h.dealloc_toke
   ledger_keyless = kept_keyless R Q sr sq z c holds out (content R Q T k z x) whole
 
   module _ (p : Ptr) where
-    pub share_keyless : Keyless (share_of R Q T c holds out k z x p)
-    share_keyless = ((λ _. tt), (((λ e q. tt), (λ e q. tt)), (ledger_keyless, looked T y (place z +ₚ at_value R Q T) x (life z))))
+    module _ (much : Share → Type 0) (i : ℕ) where
+      pub owner_keyless : Keyless (owner_of R Q T c holds out k z x p much i)
+      owner_keyless = ((λ _. tt), (((λ e q. tt), (λ e q. entry_keyless halved z.grips i _)), (ledger_keyless, looked T y (place z +ₚ at_value R Q T) x (life z))))
 
-    pub share_shown_keyless : Common (share_shown R Q T c holds out k z x p)
-    share_shown_keyless κ = ((λ _. tt), (((λ q. tt), (λ q. tt)), (ledger_keyless, looked T y (place z +ₚ at_value R Q T) x (life z))))
-
-    pub hold_keyless : Keyless (hold_of R Q T c holds out k z x p)
-    hold_keyless = ((λ _. tt), (((λ e q. tt), (λ e q. entry_keyless halved z.grips 0 _)), (ledger_keyless, looked T y (place z +ₚ at_value R Q T) x (life z))))
-
-    pub hold_shown_keyless : Common (hold_shown R Q T c holds out k z x p)
-    hold_shown_keyless κ = ((λ _. tt), ((λ q. tt), looked T y (place z +ₚ at_value R Q T) x (life z)))
+      pub shown_keyless : Common (owner_shown R Q T c holds out k z x p much i)
+      shown_keyless κ = ((λ _. tt), (((λ q. tt), (λ q. entry_keyless halved z.grips i _)), (ledger_keyless, looked T y (place z +ₚ at_value R Q T) x (life z))))

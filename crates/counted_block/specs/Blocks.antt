@@ -1,5 +1,5 @@
--- A block whose words say how many own a part of it. Three ghost counts: one part in 2 ^ 64 of a lifetime's token for each share and each hold, for which the memory is lent; one in 2 ^ 62 of another's for each share; and a grip for each hold.
--- An invariant, which is never given up, has the words, the slots that are at home, what is not out of the counts, and a quarter of each view. The second word counts the holds, with 2 ^ 63 more once the closer has left; then no share is out, and the lifetime that counts them is dead. Once the block is gone the invariant has the views alone.
+-- A block whose words say how many own a part of it. Each share and each hold, and the last share, has one part in 2 ^ 64 of a lifetime's token, for which the memory is lent, and a grip: by its kind, one part in 2 ^ 63, or for the last share all there is.
+-- An invariant, which is never given up, has the words, the slots that are at home, what is not out of the counts, and a quarter of each view. While some share is out it has the last share's grip. The second word counts the holds, with 2 ^ 63 more once the closer has left; then no share is out, and no last share. Once the block is gone the invariant has the views alone.
 use Rattle.std.specs.Prelude.{◌≡◌, ℕ, zero, suc, ◌+◌, ◌-◌, ◌<◌, ◌≤◌, Bool, true, false, List, [], ◌∷◌, length, slice_index}
 use mathlib.Core.Option.{Option, none, some}
 use base.Fraction.{full_share}
@@ -24,7 +24,6 @@ use Rattle.counted_block.specs.Layout.{at_first, at_second}
 pub record BlockId : Type 0 where
   pub views : ℕ
   pub age : ℕ
-  pub tally : ℕ
   pub grips : ℕ
   pub first : ℕ
   pub second : ℕ
@@ -33,55 +32,92 @@ pub record BlockId : Type 0 where
 
 -- how the logic encodes it as a ghost value
 abbrev pub block_id_coded : Coded BlockId
-block_id_coded = coded_via (coded× coded_ℕ (coded× coded_ℕ (coded× coded_ℕ (coded× coded_ℕ (coded× coded_ℕ (coded× coded_ℕ (coded× coded_ℕ coded_ℕ)))))))
-    (λ (z : BlockId). (z.views, (z.age, (z.tally, (z.grips, (z.first, (z.second, (z.block, z.offset))))))))
-    (λ x y e i. record { views = (e i).0; age = (e i).1.0; tally = (e i).1.1.0; grips = (e i).1.1.1.0; first = (e i).1.1.1.1.0; second = (e i).1.1.1.1.1.0; block = (e i).1.1.1.1.1.1.0; offset = (e i).1.1.1.1.1.1.1 })
+block_id_coded = coded_via (coded× coded_ℕ (coded× coded_ℕ (coded× coded_ℕ (coded× coded_ℕ (coded× coded_ℕ (coded× coded_ℕ coded_ℕ))))))
+    (λ (z : BlockId). (z.views, (z.age, (z.grips, (z.first, (z.second, (z.block, z.offset)))))))
+    (λ x y e i. record { views = (e i).0; age = (e i).1.0; grips = (e i).1.1.0; first = (e i).1.1.1.0; second = (e i).1.1.1.1.0; block = (e i).1.1.1.1.1.0; offset = (e i).1.1.1.1.1.1 })
 
--- the lifetime for which the memory is lent, and the one that counts the shares
+-- the lifetime for which the memory is lent
 abbrev pub life : BlockId → Lft
 life z = z.age ∷ []
-
--- the lifetime that each share keeps alive: it is dead once the last one is closed
-abbrev pub stay : BlockId → Lft
-stay z = z.tally ∷ []
 
 -- where the block lies in memory
 abbrev pub place : BlockId → Ptr
 place z = block_ptr z.block z.offset
 
--- one grip, and what is left of them where h are out
-abbrev pub gripped : ℕ → Share → Fml
-gripped γ q = entry halved γ 0 (q, gnum 0)
+-- a fraction of the grips of a kind: those of the holds, of the shares, and of the last share
+abbrev pub gripped : ℕ → ℕ → Share → Fml
+gripped γ k q = entry halved γ k (q, gnum 0)
 
--- the ghost token of one hold, one part in 2 ^ 63
-abbrev pub grip : ℕ → Fml
-grip γ = fex Share (λ e. fex (Counts 63 e 1) (λ _. gripped γ e))
+abbrev pub of_holds : ℕ
+of_holds = 0
+
+abbrev pub of_shares : ℕ
+of_shares = 1
+
+abbrev pub of_last : ℕ
+of_last = 2
+
+-- how much of them one owner has: one part in 2 ^ 63, or all
+abbrev pub is_one : Share → Type 0
+is_one e = Counts 63 e 1
+
+abbrev pub is_all : Share → Type 0
+is_all e = e ≡ full_share
+
+-- the grip of one owner
+abbrev pub grip : (Share → Type 0) → ℕ → ℕ → Fml
+grip much γ k = fex Share (λ e. fex (much e) (λ _. gripped γ k e))
 
 -- r is the fraction of the grips that is left where h are out: all of it where none is
 abbrev pub Free : ℕ → Share → Type 0
 Free h r = (h < 9223372036854775808) × Counts 63 r (9223372036854775808 - h) × (h ≡ 0 → r ≡ full_share)
 
--- the grips that no hold has, where h are out
-abbrev pub grips_left : ℕ → ℕ → Fml
-grips_left γ h = fex Share (λ r. fex (Free h r) (λ _. gripped γ r))
+-- the grips that nobody has, where h are out
+abbrev pub grips_left : ℕ → ℕ → ℕ → Fml
+grips_left γ k h = fex Share (λ r. fex (Free h r) (λ _. gripped γ k r))
 
--- the parts of a share
+-- the parts of an owner: of the memory, and its grip
+abbrev pub parts_of : (Share → Type 0) → ℕ → BlockId → Fml
+parts_of much k z = fsep (part 64 z.age) (grip much z.grips k)
+
+-- those of a share, of a hold and of the last share
 abbrev pub parts : BlockId → Fml
-parts z = fsep (part 64 z.age) (part 62 z.tally)
+parts = parts_of is_one of_shares
 
--- the same where there is a share, and else nothing
-abbrev pub parts_if : Bool → BlockId → Fml
-parts_if true z = parts z
-parts_if false z = ftrue
-
--- the parts of a hold
 abbrev pub hold_parts : BlockId → Fml
-hold_parts z = fsep (part 64 z.age) (grip z.grips)
+hold_parts = parts_of is_one of_holds
 
--- the same where there is a hold, and else nothing
+abbrev pub last_parts : BlockId → Fml
+last_parts = parts_of is_all of_last
+
+-- those of a hold where there is one, and else nothing
 abbrev pub hold_parts_if : Bool → BlockId → Fml
 hold_parts_if true z = hold_parts z
 hold_parts_if false z = ftrue
+
+-- those of a share where there is one, or of the last share, or nothing
+abbrev pub parts_if : Bool → Bool → BlockId → Fml
+parts_if true last z = parts z
+parts_if false true z = last_parts z
+parts_if false false z = ftrue
+
+-- how many keep the memory beside the holds: the shares, or the last share
+abbrev pub keepers : ℕ → ℕ
+keepers zero = 1
+keepers (suc n) = suc n
+
+-- the last share's grip while some share is out
+abbrev pub unless_last : BlockId → ℕ → Fml
+unless_last z zero = ftrue
+unless_last z (suc n) = grip is_all z.grips of_last
+
+-- the grips of shares where n are out
+abbrev pub shares_left : BlockId → ℕ → Fml
+shares_left z n = fsep (grips_left z.grips of_shares n) (unless_last z n)
+
+-- no share is out, nor the last share
+abbrev pub closed : BlockId → Fml
+closed z = fsep (grips_left z.grips of_shares 0) (grip is_all z.grips of_last)
 
 module _ (R Q : RattleType) (z : BlockId) where
   -- the memory of each slot
@@ -148,8 +184,8 @@ module _ (R Q : RattleType) {V : Type 0} (c : V → Gv) (holds : State (Place R.
 
   -- what is not out, with the closer here or after it has left
   abbrev pub counted : Bool → ℕ → ℕ → Fml
-  counted true w h = fsep (fact (h < 9223372036854775808)) (fsep (fsep (rest 64 z.age (out w + h)) (rest 62 z.tally (out w))) (grips_left z.grips h))
-  counted false w h = fsep (fact (9223372036854775808 ≤ h)) (fsep (fsep (rest 64 z.age (h - 9223372036854775808)) (fdead (stay z))) (grips_left z.grips (h - 9223372036854775808)))
+  counted true w h = fsep (fact (h < 9223372036854775808)) (fsep (fsep (rest 64 z.age (keepers (out w) + h)) (shares_left z (out w))) (grips_left z.grips of_holds h))
+  counted false w h = fsep (fact (9223372036854775808 ≤ h)) (fsep (fsep (rest 64 z.age (h - 9223372036854775808)) (closed z)) (grips_left z.grips of_holds (h - 9223372036854775808)))
 
   -- what comes back once the memory is no longer lent: the content beside the slots, and the slots
   abbrev pub lent : Fml
@@ -163,10 +199,10 @@ module _ (R Q : RattleType) {V : Type 0} (c : V → Gv) (holds : State (Place R.
   abbrev pub ghostly : State (Place R.Denot Q.Denot) V → Fml
   ghostly s = fsep (fact (word_of s < 18446744073709551616)) (views_in s)
 
-  -- the block is in memory; or it is gone, and both lifetimes are dead
+  -- the block is in memory; or it is gone, and so is the lifetime
   abbrev pub stands : Bool → Fml
   stands true = fex (Bool × (State (Place R.Denot Q.Denot) V × ℕ)) standing
-  stands false = fsep (fsep (fdead (life z)) (fdead (stay z))) (fex (State (Place R.Denot Q.Denot) V) ghostly)
+  stands false = fsep (fsep (fdead (life z)) (closed z)) (fex (State (Place R.Denot Q.Denot) V) ghostly)
 
   -- what the invariant says: one of the two
   abbrev pub block : Fml
@@ -189,20 +225,12 @@ module _ (R Q : RattleType) {V : Type 0} (c : V → Gv) (holds : State (Place R.
   remains_if true seat = remains seat
   remains_if false seat = ftrue
 
--- what a share and a hold own, and what a `&` to each has of that, where t is how the value is lent
-module _ (kept : Fml) (t : Lft → Fml) (z : BlockId) where
-  -- a share: its parts of the counts, the invariant, and the right to look at the value
-  abbrev pub share_owns : Fml
-  share_owns = fsep (parts z) (fsep kept (t (life z)))
+-- what an owner of this kind has, and what a `&` to it has of that, where t is how the value is lent
+module _ (kept : Fml) (t : Lft → Fml) (much : Share → Type 0) (k : ℕ) (z : BlockId) where
+  -- its parts, the invariant, and the right to look at the value
+  abbrev pub owner_owns : Fml
+  owner_owns = fsep (parts_of much k z) (fsep kept (t (life z)))
 
-  -- a `&` to a share, for as long as it lives
-  abbrev pub share_shares : Lft → Fml
-  share_shares = beside (beside (one (λ q. flft (life z) q)) (one (λ q. flft (stay z) q))) (beside (λ _. kept) (held (life z) t))
-
-  -- a hold: its parts of the counts, the invariant, and the right to look at the value
-  abbrev pub hold_owns : Fml
-  hold_owns = fsep (hold_parts z) (fsep kept (t (life z)))
-
-  -- a `&` to a hold, for as long as it lives
-  abbrev pub hold_shares : Lft → Fml
-  hold_shares = beside (one (λ q. flft (life z) q)) (held (life z) t)
+  -- a `&` to it, for as long as it lives
+  abbrev pub owner_shares : Lft → Fml
+  owner_shares = beside (beside (one (λ q. flft (life z) q)) (one (λ q. gripped z.grips k q))) (beside (λ _. kept) (held (life z) t))

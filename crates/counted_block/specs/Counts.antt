@@ -1,5 +1,5 @@
 -- What a step asks beside `Allows`: how many shares are out after it.
-use Rattle.std.specs.Prelude.{◌≡◌, ◌⊎◌, ℕ, ◌+◌, ◌<◌, Bool, true, false, length, slice_index}
+use Rattle.std.specs.Prelude.{◌≡◌, ◌⊎◌, ℕ, ◌+◌, ◌<◌, ◌==◌, Bool, true, false, length, slice_index}
 use lib.ListN.{get_elem?}
 use mathlib.Core.Option.{some}
 use Rattle.atomic_table.specs.Table.{State, Me, keeps, stepped}
@@ -15,14 +15,10 @@ module _ {S V : Type 0} where
   More holds out id v f counts = (s : State S V) → holds s → get_elem? s.views id ≡ some v
       → (counts (word_of s) ≡ false) × (out (f (word_of s)) ≡ out (word_of s)) ⊎ (counts (word_of s) ≡ true) × (out (f (word_of s)) ≡ out (word_of s) + 1) × (out (word_of s) + 1 < 4611686018427387904)
 
-  -- one less, where it says so, which is not the last
-  abbrev pub Less : (State S V → Type 0) → (ℕ → ℕ) → ℕ → V → (ℕ → ℕ) → (ℕ → Bool) → Type 0
-  Less holds out id v f counts = (s : State S V) → holds s → get_elem? s.views id ≡ some v
-      → (counts (word_of s) ≡ false) × (out (f (word_of s)) ≡ out (word_of s)) ⊎ (counts (word_of s) ≡ true) × (out (f (word_of s)) + 1 ≡ out (word_of s)) × (0 < out (f (word_of s)))
-
-  -- with this view of the seat one share is out, the caller's
-  abbrev pub Last : (State S V → Type 0) → (ℕ → ℕ) → ℕ → V → Type 0
-  Last holds out id v = (s : State S V) → holds s → get_elem? s.views id ≡ some v → out (word_of s) ≡ 1
+  -- one less, where it says so, and it says too whether none is left
+  abbrev pub Less : (State S V → Type 0) → (ℕ → ℕ) → ℕ → V → (ℕ → ℕ) → (ℕ → Bool) → (ℕ → Bool) → Type 0
+  Less holds out id v f counts lasts = (s : State S V) → holds s → get_elem? s.views id ≡ some v
+      → (counts (word_of s) ≡ false) × (out (f (word_of s)) ≡ out (word_of s)) ⊎ (counts (word_of s) ≡ true) × (out (f (word_of s)) + 1 ≡ out (word_of s)) × (lasts (word_of s) ≡ out (f (word_of s)) == 0)
 
   -- a seat goes on by itself: an `Allows` of a load, whose act is `keeps`
   abbrev pub Notes : (State S V → Type 0) → ℕ → Me S V → (ℕ → Me S V → Type 0) → Type 0

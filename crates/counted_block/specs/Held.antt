@@ -4,7 +4,7 @@ use mathlib.Core.Option.{Option}
 use mir.Syntax.{Ty}
 use base.Fraction.{full_share}
 use base.Stored.{Gv}
-use base.Fml.{Lft, Fml, fsep, fall, fwand}
+use base.Fml.{Lft, Fml, Share, fsep, fall, fwand}
 use denote.RattleType.{RattleType}
 use denote.RawPtr.{Ptr, lies_at, ◌+ₚ◌}
 use denote.Memory.{part_at}
@@ -15,7 +15,7 @@ use Rattle.atomic_table.specs.Table.{State}
 use Rattle.atomic_table.specs.Seated.{fact}
 use Rattle.counted_block.specs.declared.place.Place.{Place}
 use Rattle.counted_block.specs.Layout.{at_first, at_second, at_value}
-use Rattle.counted_block.specs.Blocks.{BlockId, life, place, words_in, parts_if, hold_parts_if, kept, remains_if, share_owns, share_shares, hold_owns, hold_shares}
+use Rattle.counted_block.specs.Blocks.{BlockId, life, place, is_one, is_all, of_holds, of_shares, of_last, words_in, parts_if, hold_parts_if, kept, remains_if, owner_owns, owner_shares}
 use Rattle.counted_block.specs.contracts.inner.Inner.{the_row}
 
 module _ (R Q T : RattleType) (t : Ty → Ptr → Fml) (z : BlockId) (x : T.Denot) where
@@ -53,25 +53,37 @@ module _ (R Q T : RattleType) {V : Type 0} (c : V → Gv) (holds : State (Place 
   lies_in p = fact (p ≡ place z)
 
   module _ (p : Ptr) where
-    -- what a share owns, which is a pointer
+    module _ (much : Share → Type 0) (i : ℕ) where
+      -- what an owner of this kind owns, which is a pointer
+      abbrev pub owner_of : Fml
+      owner_of = fsep (lies_in p) (owner_owns kept_of (looked_at R Q T t z x) much i z)
+
+      -- what a `&` to it has
+      abbrev pub owner_shown : Lft → Fml
+      owner_shown = beside (said (lies_in p)) (owner_shares kept_of (looked_at R Q T t z x) much i z)
+
+    -- that of a share, of a hold and of the last share
     abbrev pub share_of : Fml
-    share_of = fsep (lies_in p) (share_owns kept_of (looked_at R Q T t z x) z)
+    share_of = owner_of is_one of_shares
 
-    -- what a `&` to it has
     abbrev pub share_shown : Lft → Fml
-    share_shown = beside (said (lies_in p)) (share_shares kept_of (looked_at R Q T t z x) z)
+    share_shown = owner_shown is_one of_shares
 
-    -- what a hold owns, which is a pointer
     abbrev pub hold_of : Fml
-    hold_of = fsep (lies_in p) (hold_owns kept_of (looked_at R Q T t z x) z)
+    hold_of = owner_of is_one of_holds
 
-    -- what a `&` to it has
     abbrev pub hold_shown : Lft → Fml
-    hold_shown = beside (said (lies_in p)) (hold_shares kept_of (looked_at R Q T t z x) z)
+    hold_shown = owner_shown is_one of_holds
 
-    -- the same where a step made them, and else what every one of them has
-    abbrev pub maybe_share_of : Bool → Fml
-    maybe_share_of y = fsep (lies_in p) (fsep (parts_if y z) (fsep kept_of (looked_at R Q T t z x (life z))))
+    abbrev pub last_of : Fml
+    last_of = owner_of is_all of_last
+
+    abbrev pub last_shown : Lft → Fml
+    last_shown = owner_shown is_all of_last
+
+    -- a share or the last share, where a step made or left one, and else what every one of them has
+    abbrev pub maybe_share_of : Bool → Bool → Fml
+    maybe_share_of y last = fsep (lies_in p) (fsep (parts_if y last z) (fsep kept_of (looked_at R Q T t z x (life z))))
 
     -- the same of a hold
     abbrev pub maybe_hold_of : Bool → Fml

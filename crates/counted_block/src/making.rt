@@ -1,5 +1,5 @@
 // A block begins with one share or two, and one seat.
-ghost use Rattle.std.specs.Prelude.{◌≡◌, ◌==◌, ◌<◌, [], ◌∷◌};
+ghost use Rattle.std.specs.Prelude.{◌≡◌, ◌==◌, ◌<◌, [], ◌∷◌, false};
 ghost use Rattle.atomic_table.specs.Table.{opening};
 ghost use Rattle.counted_block.specs.declared.place.Place.TheVariants.{First, Second};
 
@@ -25,7 +25,7 @@ impl<S, W, V, K, P: BlockRule<S, W, V, K>, T, A: Allocator> Share<S, W, V, K, P,
         requires holds { bare.value.holds ≡ 0 }
         requires rule { P.holds about.now (opening (bare.value.word ∷ []) (First bare.value.first ∷ Second bare.value.second ∷ []) (P.first about.now)) }
         ensures share { (result.0.key ≡ about.now) × (result.0.value ≡ bare.value.value) × (result.0.heap ≡ bare.heap) }
-        ensures other { (result.1.id ≡ result.0.id) × (result.1.key ≡ about.now) × (result.1.value ≡ bare.value.value) × (result.1.heap ≡ bare.heap) × (result.1.there ≡ P.out bare.value.word == 2) }
+        ensures other { (result.1.id ≡ result.0.id) × (result.1.key ≡ about.now) × (result.1.value ≡ bare.value.value) × (result.1.heap ≡ bare.heap) × (result.1.there ≡ P.out bare.value.word == 2) × (result.1.last ≡ false) }
         ensures seat { (result.2.block ≡ result.0.id) × (result.2.id ≡ 0) × (result.2.me ≡ (P.first about.now, [])) }
     {
         let Bare { at, marker: _ } = bare;

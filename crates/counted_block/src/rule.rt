@@ -11,7 +11,7 @@ pub trait BlockRule<S, W, V, K> {
     ghost holds: { K → State (Place S W) V → Type 0 };
     // The view of the first seat.
     ghost first: { K → V };
-    // How many shares are out where the word is this number. Only the word decides, so a thread that finds a number knows the count too.
+    // How many shares are out where the word is this number. Only the word decides, so a thread that finds a number knows the count too. Where none is out, somebody has the last share, or the block is closed.
     ghost out: { ℕ → ℕ };
 }
 
@@ -25,4 +25,6 @@ pub trait BlockPlay<S, V, K> {
 pub trait CountPlay<S, V, K>: BlockPlay<S, V, K> {
     // Whether it does, by the number that the step found in the word.
     ghost counts: { Step S → ℕ → Bool };
+    // Whether none is out after it, by the same number: then the last share is left.
+    ghost lasts: { Step S → ℕ → Bool };
 }

@@ -1,5 +1,5 @@
-// The steps that leave as many shares out as there were. Each asks for `Same` beside what the table's rule asks for.
-ghost use Rattle.std.specs.Prelude.{◌≡◌, [], bit_and, bit_or};
+// The steps that leave as many shares out as there were. Each asks for `Same` beside what the table's rule asks for, and tells that the number found is one at which a share is out.
+ghost use Rattle.std.specs.Prelude.{◌≡◌, ◌<◌, [], bit_and, bit_or};
 ghost use mathlib.Core.Option.{none};
 ghost use Rattle.atomic_table.specs.Table.{step, Allows, Enters, Splits};
 ghost use Rattle.counted_block.specs.Counts.{Same};
@@ -25,7 +25,8 @@ impl<S, W, V, K, P: BlockRule<S, W, V, K>, T, A: Allocator> Share<S, W, V, K, P,
         requires block { seat.old.block ≡ self.now.id }
         requires allowed { Allows (P.holds self.now.key) 2 seat.old.id seat.old.me 0 (λ n. n) (M.then self.now.key (step 2 0 0 0 none) seat.old.me) }
         requires shares { Same (P.holds self.now.key) P.out seat.old.id seat.old.me.0 (λ n. n) }
-        ensures { (seat.new.block ≡ seat.old.block) × (seat.new.id ≡ seat.old.id) × M.then self.now.key (step 2 0 0 0 none) seat.old.me result seat.new.me }
+        ensures seat { (seat.new.block ≡ seat.old.block) × (seat.new.id ≡ seat.old.id) × M.then self.now.key (step 2 0 0 0 none) seat.old.me result seat.new.me }
+        ensures live { 0 < P.out result }
     {
         unsafe { raw::load::<Brand>(&raw const (*self.at).word, SeqCst) }
     }
@@ -33,7 +34,8 @@ impl<S, W, V, K, P: BlockRule<S, W, V, K>, T, A: Allocator> Share<S, W, V, K, P,
     /// Loads the word, and makes a new seat, whose view the rule has to allow whatever the number is.
     pub fn load_new_seat<M: BlockPlay<Place<S, W>, V, K>>(&self) -> (u64, Seat<S, W, V>)
         requires allowed { Enters (P.holds self.now.key) 2 0 (λ n w. M.then self.now.key (step 2 0 0 0 none) (P.first self.now.key, []) n (w, [])) }
-        ensures { (result.1.block ≡ self.now.id) × (result.1.me.1 ≡ []) × M.then self.now.key (step 2 0 0 0 none) (P.first self.now.key, []) result.0 result.1.me }
+        ensures seat { (result.1.block ≡ self.now.id) × (result.1.me.1 ≡ []) × M.then self.now.key (step 2 0 0 0 none) (P.first self.now.key, []) result.0 result.1.me }
+        ensures live { 0 < P.out result.0 }
     {
         let found = unsafe { raw::load::<Brand>(&raw const (*self.at).word, SeqCst) };
         (
@@ -60,7 +62,8 @@ impl<S, W, V, K, P: BlockRule<S, W, V, K>, T, A: Allocator> Share<S, W, V, K, P,
         requires block { seat.old.block ≡ self.now.id }
         requires allowed { Allows (P.holds self.now.key) 2 seat.old.id seat.old.me 0 (λ _. new) (M.then self.now.key (step 2 0 new 0 none) seat.old.me) }
         requires shares { Same (P.holds self.now.key) P.out seat.old.id seat.old.me.0 (λ _. new) }
-        ensures { (seat.new.block ≡ seat.old.block) × (seat.new.id ≡ seat.old.id) × M.then self.now.key (step 2 0 new 0 none) seat.old.me result seat.new.me }
+        ensures seat { (seat.new.block ≡ seat.old.block) × (seat.new.id ≡ seat.old.id) × M.then self.now.key (step 2 0 new 0 none) seat.old.me result seat.new.me }
+        ensures live { 0 < P.out result }
     {
         unsafe { raw::swap::<Brand>(&raw const (*self.at).word, new, SeqCst) }
     }
@@ -74,7 +77,8 @@ impl<S, W, V, K, P: BlockRule<S, W, V, K>, T, A: Allocator> Share<S, W, V, K, P,
         requires block { seat.old.block ≡ self.now.id }
         requires allowed { Allows (P.holds self.now.key) 2 seat.old.id seat.old.me 0 (λ n. bit_and n k) (M.then self.now.key (step 2 0 k 0 none) seat.old.me) }
         requires shares { Same (P.holds self.now.key) P.out seat.old.id seat.old.me.0 (λ n. bit_and n k) }
-        ensures { (seat.new.block ≡ seat.old.block) × (seat.new.id ≡ seat.old.id) × M.then self.now.key (step 2 0 k 0 none) seat.old.me result seat.new.me }
+        ensures seat { (seat.new.block ≡ seat.old.block) × (seat.new.id ≡ seat.old.id) × M.then self.now.key (step 2 0 k 0 none) seat.old.me result seat.new.me }
+        ensures live { 0 < P.out result }
     {
         unsafe { raw::fetch_and::<Brand>(&raw const (*self.at).word, k, SeqCst) }
     }
@@ -84,7 +88,8 @@ impl<S, W, V, K, P: BlockRule<S, W, V, K>, T, A: Allocator> Share<S, W, V, K, P,
         requires block { seat.old.block ≡ self.now.id }
         requires allowed { Allows (P.holds self.now.key) 2 seat.old.id seat.old.me 0 (λ n. bit_or n k) (M.then self.now.key (step 2 0 k 0 none) seat.old.me) }
         requires shares { Same (P.holds self.now.key) P.out seat.old.id seat.old.me.0 (λ n. bit_or n k) }
-        ensures { (seat.new.block ≡ seat.old.block) × (seat.new.id ≡ seat.old.id) × M.then self.now.key (step 2 0 k 0 none) seat.old.me result seat.new.me }
+        ensures seat { (seat.new.block ≡ seat.old.block) × (seat.new.id ≡ seat.old.id) × M.then self.now.key (step 2 0 k 0 none) seat.old.me result seat.new.me }
+        ensures live { 0 < P.out result }
     {
         unsafe { raw::fetch_or::<Brand>(&raw const (*self.at).word, k, SeqCst) }
     }

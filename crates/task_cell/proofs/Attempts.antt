@@ -6,10 +6,12 @@ use Rattle.task_steps.specs.Values.{Values, values_of}
 use Rattle.task_cell.proofs.Vocabulary.{◌≡◌, ℕ, Bool, true, Option, Some, None, List, [], sym, refl, ap, ◌∙◌, subst, ◌==◌, none, Me, step, Allows, State, state_of, number_of, Act, View}
 use Rattle.task_cell.proofs.Vocabulary.{RuleHolds, head_of, Makes, Position, Party, deeds, limit_of, StandsWith, OwesEnd, may_try, tries_after, looks_of, Names, having_seen, observed}
 use Rattle.task_cell.proofs.Vocabulary.{attempted, MayTry, HasChanged, HasEnded, HasSeen, HasFound, HasLooked, HasMissed, IsUndecided, TaskPlace}
-use Rattle.std.proofs.Common.{◌&&◌, ◌||◌, ◌≢◌, ◌⊎◌, ◌+◌, ◌≤◌, not, false, eq-eqb, ne_eqb, ⊎_elim, inl, inr, arith, if◌then◌else◌}
+use Rattle.std.proofs.lemmas.Bool.Decides.{nat_tests}
+use Rattle.task_laws.specs.Asks.{is_held}
+use Rattle.std.proofs.Common.{◌&&◌, ◌||◌, ◌≢◌, ◌⊎◌, ◌+◌, ◌<◌, ◌≤◌, not, false, eq-eqb, ne_eqb, ⊎_elim, inl, inr, arith, if◌then◌else◌}
 use native.Mathlib.Decide.{ℕ_discrete}
 use Rattle.counted_block.specs.Counts.{More, Less}
-use Rattle.task_steps.specs.Attempt.{Attempt, word_after, acts_on, counts_on, next_of}
+use Rattle.task_steps.specs.Attempt.{Attempt, word_after, acts_on, counts_on, lasts_on, next_of}
 use Rattle.task_steps.specs.Attempts.{Decides, IfAgain}
 use Rattle.task_steps.specs.declared.attempt.TriedOnce.{TriedOnce}
 use Rattle.task_steps.specs.declared.attempt.TriedOnce.TheVariants.{Made, Ended, Again}
@@ -38,9 +40,12 @@ pub answered : {Row : Type 0} (change : Attempt Row) (limit key : ℕ) (w : Stat
 answered change limit key w made e same = written_if (change.applies key w) made (word_after w (acts_on change w), change.row w) (e ∙ ap (λ l. next_of change l w) same)
 
 -- a change that was made counts by what it has found
+pub row_made : {Row : Type 0} (change : Attempt Row) (n old : ℕ) (w : State) (row : Row) → n ≡ old → old ≡ number_of w → row ≡ change.row w → change.row (state_of n) ≡ row
+row_made change n old w row e is found = ap (λ k. change.row (state_of k)) (e ∙ is) ∙ (ap (λ v. change.row v) (state_of_number_of w) ∙ sym found)
+
 pub counts_made : {Row : Type 0} (change : Attempt Row) (n old : ℕ) (w : State) (row : Row) → n ≡ old → old ≡ number_of w → row ≡ change.row w → ((n == old) && counts_on change (state_of n)) ≡ change.counts row
 counts_made change n old w row e is found = ap (λ b. b && counts_on change (state_of n)) (eq-eqb n old e)
-    ∙ ap (λ x. change.counts x) (ap (λ k. change.row (state_of k)) (e ∙ is) ∙ (ap (λ v. change.row v) (state_of_number_of w) ∙ sym found))
+    ∙ ap (λ x. change.counts x) (row_made change n old w row e is found)
 
 -- one that missed counts nothing
 pub counts_missed : {Row : Type 0} (change : Attempt Row) (n old : ℕ) → n ≢ old → ((n == old) && counts_on change (state_of n)) ≡ false
@@ -55,9 +60,16 @@ one_look v w (Some t) names other = let one : bit (differ t.seen w) ≡ 1 = ap (
 pub other_word : (n old : ℕ) (v w : State) → old ≡ number_of v → w ≡ state_of n → n ≢ old → v ≢ w
 other_word n old v w names found miss e = miss (sym (number_of_state_of n) ∙ (ap number_of (sym found ∙ sym e) ∙ sym names))
 
+-- a number at which a share is out shows a handle
+pub held_by : (n : ℕ) (w : State) → w ≡ state_of n → 0 < shares_out n → is_held w ≡ true
+held_by n w e some = ap is_held e ∙ held_some (state_of n) some
+  where
+    held_some : (v : State) → 0 < v.references + bit v.task → is_held v ≡ true
+    held_some v h = grind (arith, nat_tests)
+
 -- a change that answers nothing to write does not apply: a word that is found again, and does not end the attempt, leaves it undecided
-pub other_or_undecided : {Row : Type 0} (change : Attempt Row) (limit key : ℕ) (v w : State) → None ≡ next_of change limit v → limit ≡ key → change.ends key w ≡ false → (v ≢ w) ⊎ IsUndecided key change w
-other_or_undecided change limit key v w unmade same goes_on = by (ℕ_discrete (number_of v) (number_of w))
+pub other_or_undecided : {Row : Type 0} (change : Attempt Row) (limit key : ℕ) (v w : State) → None ≡ next_of change limit v → limit ≡ key → change.ends key w ≡ false → is_held w ≡ true → (v ≢ w) ⊎ IsUndecided key change w
+other_or_undecided change limit key v w unmade same goes_on held = by (ℕ_discrete (number_of v) (number_of w))
   where
     unwritten : {X : Type 0} (b : Bool) (x : X) → None ≡ (if b then Some x else None) → b ≡ false
     unwritten true x e = absurd (cc)
@@ -67,7 +79,7 @@ other_or_undecided change limit key v w unmade same goes_on = by (ℕ_discrete (
     neither a b e f = ap (λ x. x || b) e ∙ f
 
     by : Dec (number_of v ≡ number_of w) → (v ≢ w) ⊎ IsUndecided key change w
-    by (yes e) = let is : v ≡ w = one_word v w e in inr (neither (change.applies key w) (change.ends key w) (ap (change.applies key) (sym is) ∙ (ap (λ l. change.applies l v) (sym same) ∙ unwritten (change.applies limit v) _ unmade)) goes_on)
+    by (yes e) = let is : v ≡ w = one_word v w e in inr (held, neither (change.applies key w) (change.ends key w) (ap (change.applies key) (sym is) ∙ (ap (λ l. change.applies l v) (sym same) ∙ unwritten (change.applies limit v) _ unmade)) goes_on)
     by (no ne) = inl (λ e. ne (ap number_of e))
 
 -- a word that is found again leaves an attempt undecided
@@ -76,7 +88,7 @@ undecided change limit v w same = ⊎_elim (λ (other : v ≢ w). absurd (other 
 
 -- no word leaves an attempt undecided that each word decides
 pub decided : {Row P : Type 0} (limit : ℕ) (change : Attempt Row) (w : State) → Decides limit change → P ⊎ IsUndecided limit change w → P
-decided limit change w all = ⊎_elim (λ p. p) (λ (u : IsUndecided limit change w). absurd (let is = all w in cc))
+decided limit change w all = ⊎_elim (λ p. p) (λ (u : IsUndecided limit change w). absurd (let is = all w in let neither = u.1 in cc))
 
 -- a flag is set or clear
 pub set_or_clear : (b : Bool) → (b || not b) ≡ true
@@ -109,9 +121,9 @@ module _ {F T A : Type 0} where
 
   pub may_less : {values : Values F T} {Row : Type 0} (limit key id other : ℕ) (me now : Me (TaskPlace F T A) View) (change : Attempt Row) (w : State) (old new : ℕ) → key ≡ limit → other ≡ id → HasSeen w me now
       → MayGive values limit id me change → change.applies limit w ≡ true → old ≡ number_of w → new ≡ number_of (word_after w (acts_on change w))
-      → Less (RuleHolds {A = A} values key) shares_out other now.0 (λ n. either (n == old) new n) (counted {S = TaskPlace F T A} (counts_on change) (step 2 0 old new none))
+      → Less (RuleHolds {A = A} values key) shares_out other now.0 (λ n. either (n == old) new n) (counted {S = TaskPlace F T A} (counts_on change) (step 2 0 old new none)) (λ n. lasts_on change (state_of n))
   may_less {values = values} limit key id other me now change w old new a b s may applied from to = subst
-      (λ (z : ℕ × ℕ × Me (TaskPlace F T A) View × ℕ × ℕ). Less (RuleHolds {A = A} values z.0) shares_out z.1 z.2.0 (λ n. either (n == z.3) z.4 n) (counted {S = TaskPlace F T A} (counts_on change) (step 2 0 z.3 z.4 none)))
+      (λ (z : ℕ × ℕ × Me (TaskPlace F T A) View × ℕ × ℕ). Less (RuleHolds {A = A} values z.0) shares_out z.1 z.2.0 (λ n. either (n == z.3) z.4 n) (counted {S = TaskPlace F T A} (counts_on change) (step 2 0 z.3 z.4 none)) (λ n. lasts_on change (state_of n)))
       (λ i. (sym a i, sym b i, sym s.is i, sym from i, sym to i)) (may s.tries w applied s.names)
 
   pub may_load : {values : Values F T} {Row : Type 0} (limit key slots id other : ℕ) (me now : Me (TaskPlace F T A) View) (change : Attempt Row) (w : State) → key ≡ limit → slots ≡ 2 → other ≡ id → HasSeen w me now
@@ -226,7 +238,7 @@ module _ {F T A : Type 0} where
 
   -- what the rule allows a party that stands here, with what its change does to the shares
   pub may_bring_at : {values : Values F T} {Row : Type 0} (limit : ℕ) (p : Party F T A) (at : Position) (held : List (ℕ × TaskPlace F T A)) → StandsWith at held p → (change : Attempt Row) → ((w : State) → change.ends (limit_of p) w ≡ change.ends limit w)
-      → OwesChange F T A values limit change at (deeds p) [] held → Moves F T A values limit Brings change at (deeds p) [] → OwesEnd F T A values limit change at (deeds p) [] held
+      → OwesChange F T A values limit change at (deeds p) [] held → Moves F T A values limit (λ b _. Brings b) change at (deeds p) [] → OwesEnd F T A values limit change at (deeds p) [] held
       → MayTry values limit 2 p.seat.id p.seat.me change × MayBring values limit p.seat.id p.seat.me change
   may_bring_at {values = values} limit p at held s change same changes moves over = (
     may_at limit p at held s change same changes over,

@@ -3,7 +3,7 @@ pub use Rattle.atomic_table.specs.Table.{Allows, Final, Me, Seen, Splits, Valid,
 pub use Rattle.std.proofs.Common.{Bool, IfSome, List, None, Option, Some, [], ap, arith, false, get_or, get_or-set_same, inl, inr, is_some, length, length-set}
 pub use Rattle.std.proofs.Common.{map, not, refl, rules, set, subst, suc, sym, true, zero, ℕ, ⊎_elim, ◌&&◌, ◌++◌, ◌+◌, ◌<◌, ◌==◌, ◌||◌, ◌∙◌, ◌∷◌, ◌≡◌, ◌≢◌, ◌⊎◌}
 pub use Rattle.std.specs.Prelude.{Err, IfErr, IfOk, Ok, Result, if◌then◌else◌, nat_eq, nat_lt}
-pub use Rattle.task_cell.specs.Calls.{Fits, Did, DidWith, IsNew, MayGiveUp, MayMake, MayNote, Notifies, Sees, Stands, StandsWith, deeds, finds_none, places_of, limit_of, misses, position}
+pub use Rattle.task_cell.specs.Calls.{Fits, Did, DidWith, IsNew, MayAct, MayGiveUp, MayMake, MayNote, Notifies, Sees, Stands, StandsWith, deeds, finds_none, places_of, limit_of, misses, position}
 pub use Rattle.task_cell.specs.Calls.{takes_awaiter}
 pub use Rattle.task_cell.specs.Handed.{HandedOver, PolledOnce}
 pub use Rattle.task_cell.specs.PollPaths.{AnswerPath, BeginsRegister, ClaimsOutput, EndsRegister, Looks, LooksAgain, PollPath, RegisterPath, Registers}

@@ -1,5 +1,5 @@
 -- Which cell a share, a party and a ledger belong to.
-use Rattle.std.specs.Prelude.{◌≡◌, ℕ, Bool, List, [], ◌∷◌}
+use Rattle.std.specs.Prelude.{◌≡◌, ℕ, Bool, false, List, [], ◌∷◌}
 use Rattle.task_core.specs.declared.traits.Yields.{Ghosts}
 use Rattle.task_core.specs.Yielded.{Continued, Yielded}
 use Rattle.counted_block.specs.Blocks.{BlockId}
@@ -7,6 +7,7 @@ use Rattle.task_cell.specs.declared.cell.Cell.{Cell}
 use Rattle.task_cell.specs.declared.cell.Party.{Party}
 use Rattle.task_cell.specs.declared.cell.block.Share.{Share}
 use Rattle.task_cell.specs.declared.cell.block.MaybeShare.{MaybeShare}
+use Rattle.task_cell.specs.declared.cell.block.LastShare.{LastShare}
 use Rattle.task_cell.specs.declared.cell.ledger.Ledger.{Ledger}
 use Rattle.task_steps.specs.declared.table.Deed.{Deed}
 use Rattle.task_steps.specs.Deeds.{after}
@@ -63,9 +64,18 @@ module _ {R F Q M A B O T : Type 0} {G : Ghosts F O} where
   abbrev pub IsBeside : Ledger R F Q M A B O G → Party F T A → Type 0
   IsBeside ledger party = party.seat.block ≡ ledger.ledger.id
 
+  -- the party is one of the cell whose last share this is
+  abbrev pub IsOfLast : LastShare R F Q M A B O G → Party F T A → Type 0
+  IsOfLast last party = party.seat.block ≡ last.block.id
+
 module _ {R F Q M A B O : Type 0} {G : Ghosts F O} where
-  -- a step of this share's holder has made or left a share of the same cell where this is true
-  pub record Leaves (share : Share R F Q M A B O G) (maybe : MaybeShare R F Q M A B O G) (there : Bool) : Type 0 where
+  -- a step of this share's holder has made or left a share of the same cell where the first is true, or else the last share where the second is
+  pub record LeavesBy (share : Share R F Q M A B O G) (maybe : MaybeShare R F Q M A B O G) (there last : Bool) : Type 0 where
     pub cell : (maybe.maybe.id ≡ share.block.id) × (maybe.maybe.value ≡ share.block.value)
     pub terms : maybe.maybe.key ≡ share.block.key
     pub is_there : maybe.maybe.there ≡ there
+    pub is_last : maybe.maybe.last ≡ last
+
+  -- the same where the last share is never left
+  abbrev pub Leaves : Share R F Q M A B O G → MaybeShare R F Q M A B O G → Bool → Type 0
+  Leaves share maybe there = LeavesBy share maybe there false

@@ -1,5 +1,5 @@
 -- What a call of the cell asks of its party, and says of it.
-use Rattle.std.specs.Prelude.{◌≡◌, ℕ, List, [], ◌∷◌, Bool, true, false, Option, Some, None, is_some}
+use Rattle.std.specs.Prelude.{◌≡◌, ℕ, List, [], ◌∷◌, Bool, true, false, not, Option, Some, None, is_some}
 use Rattle.atomic_table.specs.Table.{Me, Allows, Splits}
 use Rattle.counted_block.specs.Counts.{Same, More, Less, Notes}
 use Rattle.task_core.specs.Word.{HasRoom, State, state_of}
@@ -64,21 +64,25 @@ module _ {F T A : Type 0} where
   abbrev pub BringsShare : Values F T → ℕ → ℕ → Me (TaskPlace F T A) View → (ℕ → ℕ) → (ℕ → Bool) → Type 0
   BringsShare values limit id me write counts = More (RuleHolds {A = A} values limit) shares_out id me.0 write counts
 
-  -- the step ends a share where this says so
-  abbrev pub EndsShare : Values F T → ℕ → ℕ → Me (TaskPlace F T A) View → (ℕ → ℕ) → (ℕ → Bool) → Type 0
-  EndsShare values limit id me write counts = Less (RuleHolds {A = A} values limit) shares_out id me.0 write counts
+  -- the step ends a share where this says so, and the last one where that does
+  abbrev pub EndsShare : Values F T → ℕ → ℕ → Me (TaskPlace F T A) View → (ℕ → ℕ) → (ℕ → Bool) → (ℕ → Bool) → Type 0
+  EndsShare values limit id me write counts lasts = Less (RuleHolds {A = A} values limit) shares_out id me.0 write counts lasts
 
   -- the party has made these acts by the word that was found, of which it knows what it has seen before
   abbrev pub HasActed : Values F T → (State → List Act) → Party F T A → ℕ → Me (TaskPlace F T A) View → Type 0
   HasActed values acts p n me = Makes values (acts (state_of n)) (state_of n) p.seat.me me × Knows (deeds p) (state_of n)
 
+  -- the rule allows the party these acts
+  abbrev pub MayAct : Values F T → ℕ → (State → List Act) → (ℕ → ℕ) → Party F T A → Type 0
+  MayAct values limit acts write p = MayWrite values limit p.seat.id p.seat.me write (HasActed values acts p)
+
   -- the rule allows the party these acts, which leave as many shares out
   abbrev pub MayMake : Values F T → ℕ → (State → List Act) → (ℕ → ℕ) → Party F T A → Type 0
-  MayMake values limit acts write p = MayWrite values limit p.seat.id p.seat.me write (HasActed values acts p) × KeepsShares values limit p.seat.id p.seat.me write
+  MayMake values limit acts write p = MayAct values limit acts write p × KeepsShares values limit p.seat.id p.seat.me write
 
-  -- the rule allows the party acts by which it gives a handle up, and its share with it where it says so
+  -- the rule allows the party acts by which it gives a handle up, the last one unless this says that others are left
   abbrev pub MayGiveUp : Values F T → ℕ → (State → List Act) → (State → Bool) → (ℕ → ℕ) → Party F T A → Type 0
-  MayGiveUp values limit acts gives write p = MayWrite values limit p.seat.id p.seat.me write (HasActed values acts p) × EndsShare values limit p.seat.id p.seat.me write (λ n. gives (state_of n))
+  MayGiveUp values limit acts gives write p = MayAct values limit acts write p × EndsShare values limit p.seat.id p.seat.me write (λ _. true) (λ n. not (gives (state_of n)))
 
   -- the rule allows the party to cut its view in two: it keeps the left part
   abbrev pub MaySplit : Values F T → ℕ → (View → View) → (View → View) → Party F T A → Type 0

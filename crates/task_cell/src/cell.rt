@@ -157,7 +157,7 @@ impl<
     }
 }
 
-pub use block::{MaybeShare, Share};
+pub use block::{LastShare, MaybeShare, Share};
 pub use hold::CellHold;
 pub use spawn::LaidCell;
 pub use waker::TaskWaker;
@@ -175,6 +175,7 @@ mod dropping;
 mod ends;
 mod gain;
 mod hold;
+mod last;
 mod ledger;
 mod lent;
 mod lent_awaiter;

@@ -7,9 +7,14 @@ use Rattle.task_cell.specs.WakerPaths.{WakerDropPath, leaves_none as waker_none,
 use Rattle.task_exports.proofs.EndsCall.{IsEmptier}
 use Rattle.task_exports.proofs.Numbers.{differs}
 use Rattle.task_exports.specs.Answers.{DropsWaker, empties, last_waker, orphan_waker, shared}
+<<<<<<< ours
 use Rattle.task_exports.specs.CallPaths.{hands_on}
 use Rattle.task_exports.specs.Hands.{IsGone, IsLive}
 use Rattle.task_exports.specs.Parties.{CellParty, party_in}
+=======
+use Rattle.task_exports.specs.Hands.{IsGone, IsLive, IsLast}
+use Rattle.task_exports.specs.Parties.{CellParty}
+>>>>>>> theirs
 use Rattle.task_exports.specs.declared.hand.Hand.{Hand}
 use Rattle.task_laws.specs.declared.positions.Answer.TheVariants.{Nothing}
 use Rattle.task_laws.specs.declared.positions.Position.TheVariants.{Emptier}
@@ -24,13 +29,13 @@ Goes Path p q = (path : List Deed) × Path path × Did path as_ended p q
 
 -- the places are to be emptied by a handle whose call ends so then
 abbrev pub Emptying : (List Deed → Type 0) → Hand → Hand → Type 0
-Emptying Path x k = IsLive k × IsEmptier false k.party × ((r : CellParty) → Did (empties false) as_ended k.party r → Goes Path x.party r)
+Emptying Path x k = IsLast k × IsEmptier false k.party × ((r : CellParty) → Did (empties false) as_ended k.party r → Goes Path x.party r)
 
 -- the call has ended
 abbrev pub Over : (List Deed → Type 0) → Hand → Hand → Type 0
 Over Path x k = IsGone k × Stands as_ended k.party × Goes Path x.party k.party
 
-emptying : (Path : List Deed → Type 0) (x k : Hand) (path : List Deed) (y : _) → IsLive k → DidWith path (Emptier None Nothing) (awaiter_first y []) x.party k.party → Path (path ++ act EmptySlots ∷ act EndCall ∷ []) → Emptying Path x k
+emptying : (Path : List Deed → Type 0) (x k : Hand) (path : List Deed) (y : _) → IsLast k → DidWith path (Emptier None Nothing) (awaiter_first y []) x.party k.party → Path (path ++ act EmptySlots ∷ act EndCall ∷ []) → Emptying Path x k
 emptying Path x k path y live d is = let more : List Deed = act EmptySlots ∷ act EndCall ∷ [] in
     (live, (None, Nothing, y, stands x.party k.party path (Emptier None Nothing) (awaiter_first y []) d, refl), λ r g. (path ++ more, is, did_then x.party k.party r path more (Emptier None Nothing) as_ended (awaiter_first y []) [] d g))
 

@@ -6,14 +6,18 @@ use Rattle.std.proofs.Common.{◌≡◌, ℕ, Bool, true, false, List, None, ref
 use Rattle.task_core.specs.declared.traits.Yields.{Ghosts}
 use Rattle.task_cell.proofs.Moved.{limit_is}
 use Rattle.task_cell.proofs.WakerMoves.{fresh_stands}
-use Rattle.task_cell.specs.Belongs.{IsOf, Leaves, limit_in}
+use Rattle.task_cell.specs.Belongs.{IsOf, Leaves, LeavesBy, limit_in}
 use Rattle.task_cell.specs.Calls.{DidWith, IsNew, Stands, limit_of}
 use Rattle.task_cell.specs.TaskPaths.{Detaches as DetachesRow, GivesTaskUp}
 use Rattle.task_cell.specs.declared.cell.Party.{Party}
 use Rattle.task_cell.specs.declared.cell.block.MaybeShare.{MaybeShare}
 use Rattle.task_cell.specs.declared.cell.block.Share.{Share}
 use Rattle.task_exports.specs.Hands.{IsGone}
+<<<<<<< ours
 use Rattle.task_exports.specs.TaskAnswers.{Becomes, Detaches, EndsDetach, is_last, is_shared, is_unclaimed, leaves_none, leaves_others}
+=======
+use Rattle.task_exports.specs.TaskAnswers.{Becomes, BecomesLast, Detaches, EndsDetach, is_last, is_orphaned, is_shared, is_unclaimed, leaves_none, leaves_others}
+>>>>>>> theirs
 use Rattle.task_exports.specs.declared.hand.Hand.{Hand}
 use Rattle.task_laws.specs.declared.positions.Position.{Position}
 use Rattle.task_steps.specs.Standing.{as_runnable}
@@ -29,27 +33,34 @@ module _ {F T A : Type 0} where
 
 module _ {R F Q M A B O T : Type 0} {G : Ghosts F O} where
   -- the share is there still after a step, and its party is one of its cell
-  pub live_after : (share : Share R F Q M A B O G) (maybe : MaybeShare R F Q M A B O G) (b : Bool) (p q : Party F T A) (path : List Deed) (at : Position) (held : List (ℕ × TaskPlace F T A)) → IsOf share p → limit_of p ≡ limit_in share → Leaves share maybe b → b ≡ true → DidWith path at held p q
+  pub live_after : (share : Share R F Q M A B O G) (maybe : MaybeShare R F Q M A B O G) (b : Bool) {last : Bool} (p q : Party F T A) (path : List Deed) (at : Position) (held : List (ℕ × TaskPlace F T A)) → IsOf share p → limit_of p ≡ limit_in share → LeavesBy share maybe b last → b ≡ true → DidWith path at held p q
       → (maybe.maybe.there ≡ true) × (q.seat.block ≡ maybe.maybe.id) × (limit_of q ≡ maybe.maybe.key.limit)
   live_after share maybe b p q path at held cell limit l is g = (l.is_there ∙ is, g.cell ∙ (cell ∙ sym l.cell.0), limit_is p q path at held g ∙ (limit ∙ sym (ap (λ k. k.limit) l.terms)))
 
 module _ {R F Q M A B O T : Type 0} {G : Ghosts F O} where
-  pub live_rest : (share : Share R F Q M A B O G) (maybe : MaybeShare R F Q M A B O G) (b : Bool) (p q : Party F T A) → IsOf share p → limit_of p ≡ limit_in share → Leaves share maybe b → b ≡ true → GivesTaskUp p q b
-      → (maybe.maybe.there ≡ true) × (q.seat.block ≡ maybe.maybe.id) × (limit_of q ≡ maybe.maybe.key.limit)
-  live_rest share maybe true p q cell limit l e d = live_after share maybe true p q _ _ _ cell limit l refl d.3
-  live_rest share maybe false p q cell limit l e d = absurd (cc)
+  abbrev HasLast : MaybeShare R F Q M A B O G → Party F T A → Type 0
+  HasLast maybe q = ((maybe.maybe.there ≡ false) × (maybe.maybe.last ≡ true)) × (q.seat.block ≡ maybe.maybe.id) × (limit_of q ≡ maybe.maybe.key.limit)
+
+  -- .. or the last share is
+  pub last_after : (share : Share R F Q M A B O G) (maybe : MaybeShare R F Q M A B O G) (b last : Bool) (p q : Party F T A) (path : List Deed) (at : Position) (held : List (ℕ × TaskPlace F T A)) → IsOf share p → limit_of p ≡ limit_in share → LeavesBy share maybe b last → b ≡ false → last ≡ true → DidWith path at held p q
+      → HasLast maybe q
+  last_after share maybe b last p q path at held cell limit l is was g = ((l.is_there ∙ is, l.is_last ∙ was), g.cell ∙ (cell ∙ sym l.cell.0), limit_is p q path at held g ∙ (limit ∙ sym (ap (λ k. k.limit) l.terms)))
+
+  pub last_rest : (share : Share R F Q M A B O G) (maybe : MaybeShare R F Q M A B O G) (b : Bool) (p q : Party F T A) → IsOf share p → limit_of p ≡ limit_in share → LeavesBy share maybe false b → b ≡ true → GivesTaskUp p q b → HasLast maybe q
+  last_rest share maybe true p q cell limit l e d = last_after share maybe false true p q _ _ _ cell limit l refl refl d.3
+  last_rest share maybe false p q cell limit l e d = absurd (cc)
 
 -- the row of a detach, by what is in its place then
 pub shared_so : (values : Values _ _) (x y : Hand) → DetachesRow values x.party y.party Shared → IsGone y → Detaches x y None 1
 shared_so values x y d gone = is_shared d.0 d.1 gone d.2
 
-pub last_so : (values : Values _ _) (x y : Hand) → DetachesRow values x.party y.party Last → Becomes x y → Detaches x y None 9
+pub last_so : (values : Values _ _) (x y : Hand) → DetachesRow values x.party y.party Last → BecomesLast x y → Detaches x y None 9
 last_so values x y d b = is_last d.0 d.1 d.2 b d.3
 
 pub unclaimed_so : (values : Values _ _) (x y : Hand) → DetachesRow values x.party y.party Unclaimed → Becomes x y → Detaches x y None 5
 unclaimed_so values x y d b = is_unclaimed d.0 d.1 d.2 (output_unknown values d.1 d.3) b d.4
 
-pub rest_last : (x y : Hand) (b : Bool) → b ≡ true → GivesTaskUp x.party y.party b → Becomes x y → EndsDetach x y 9
+pub rest_last : (x y : Hand) (b : Bool) → b ≡ true → GivesTaskUp x.party y.party b → BecomesLast x y → EndsDetach x y 9
 rest_last x y true e d k = leaves_none d.0 d.1 d.2 k d.3
 rest_last x y false e d k = absurd (cc)
 

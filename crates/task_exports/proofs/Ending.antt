@@ -3,7 +3,7 @@ use Rattle.task_cell.specs.declared.cell.Party.{Party}
 use Rattle.task_cell.proofs.Vocabulary.{◌≡◌, ℕ, true, false, List, [], ◌∷◌, Option, Some, None, is_some, State, Answer, Nothing, Ran, Ended, AwaiterInHand, Emptier, GivingUp, CallEnding}
 use Rattle.task_cell.proofs.Vocabulary.{GiveUpReference, GiveUpLastReference, EndCall, EndNotify, WakeAwaiter, OfRun, OfDrop, Deed, DidWith, Did, Stands, row, act, rest_of, position, places_of, way_of, after_taking, after_waking, awaiter_first}
 use Rattle.task_cell.proofs.Moved as moved
-use Rattle.task_exports.specs.Hands.{IsLive, IsGone}
+use Rattle.task_exports.specs.Hands.{IsLive, IsLast, IsGone}
 use Rattle.task_exports.specs.Answers.{GivesBack, Finishes, over, wakes, last, last_wakes, Discarded}
 use Rattle.task_exports.specs.Answers as answers
 use Rattle.task_exports.specs.declared.hand.Hand.{Hand}
@@ -25,11 +25,11 @@ taken_gives None x m k r is v g b = (None, answers.without_awaiter v r (gives_on
 taken_gives (Some i) x m k r is v g b = absurd (cc)
 
 -- in a run: after the reference was given up
-pub finished_last : (hand : Option ℕ) (x k : Hand) (q : _) (v : State) → IsLive k → Did (row EndNotify v ∷ []) (GivingUp hand (Ran false)) x.party q → Last hand (Ran false) q k.party → is_some hand ≡ false → (awaiter : Option ℕ) × Finishes x k awaiter 9
+pub finished_last : (hand : Option ℕ) (x k : Hand) (q : _) (v : State) → IsLast k → Did (row EndNotify v ∷ []) (GivingUp hand (Ran false)) x.party q → Last hand (Ran false) q k.party → is_some hand ≡ false → (awaiter : Option ℕ) × Finishes x k awaiter 9
 finished_last None x k q v live g l is = (None, last v l.word l.place l.fits live (moved.did_then x.party q k.party (row EndNotify v ∷ []) (row GiveUpLastReference l.word ∷ []) (GivingUp None (Ran false)) (Emptier None (Ran false)) [] (awaiter_first l.place []) g l.did))
 finished_last (Some i) x k q v live g l is = absurd (cc)
 
-pub finished_last_wakes : (hand : Option ℕ) (x k : Hand) (q : _) (v : State) → IsLive k → Did (row EndNotify v ∷ []) (GivingUp hand (Ran false)) x.party q → Last hand (Ran false) q k.party → is_some hand ≡ true → (awaiter : Option ℕ) × Finishes x k awaiter 15
+pub finished_last_wakes : (hand : Option ℕ) (x k : Hand) (q : _) (v : State) → IsLast k → Did (row EndNotify v ∷ []) (GivingUp hand (Ran false)) x.party q → Last hand (Ran false) q k.party → is_some hand ≡ true → (awaiter : Option ℕ) × Finishes x k awaiter 15
 finished_last_wakes (Some i) x k q v live g l is = (Some i, last_wakes v l.word i l.place l.fits live (moved.did_then x.party q k.party (row EndNotify v ∷ []) (row GiveUpLastReference l.word ∷ []) (GivingUp (Some i) (Ran false)) (Emptier (Some i) (Ran false)) [] (awaiter_first l.place []) g l.did))
 finished_last_wakes None x k q v live g l is = absurd (cc)
 

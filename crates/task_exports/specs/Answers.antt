@@ -22,7 +22,11 @@ use Rattle.task_cell.specs.RunPaths.{NotifyPath}
 use Rattle.task_cell.specs.Starts.{TakesUp}
 use Rattle.task_exports.specs.Unknown.{unknown}
 use Rattle.task_cell.specs.WakerPaths.{GainPath, TaskWakePath}
+<<<<<<< ours
 use Rattle.task_exports.specs.Hands.{IsLive, IsGone, IsRecordOf, SameCell}
+=======
+use Rattle.task_exports.specs.Hands.{IsLive, IsLast, IsGone, SameCell}
+>>>>>>> theirs
 use Rattle.task_exports.specs.Parties.{CellParty}
 use Rattle.task_exports.specs.declared.hand.Hand.{Hand}
 use Rattle.task_exports.specs.declared.handle.Handle.{Handle}
@@ -31,6 +35,10 @@ use Rattle.task_exports.specs.declared.grip.Hold.{Hold}
 -- a place with a handle that is there
 abbrev pub IsFull : Handle → Type 0
 IsFull h = (h.there ≡ true) × IsLive h.hand
+
+-- .. or the last share
+abbrev pub HasLast : Handle → Type 0
+HasLast h = (h.there ≡ true) × IsLast h.hand
 
 -- 0 or 12: a Runnable and a Task of one cell
 pub data Made : ℕ → Handle → Handle → Type 0 where
@@ -48,7 +56,7 @@ pub data Starts (x k : Hand) : ℕ → Type 0 where
 pub data GivesBack (before : List Deed) (x k : Hand) : ℕ → Type 0 where
   others : (w : State) → Fits GiveUpReference w → IsGone k → Did (before ++ row GiveUpReference w ∷ act EndCall ∷ []) as_ended x.party k.party
       → GivesBack before x k 1
-  none_left : (w : State) (answer : Answer) (y : _) → Fits GiveUpLastReference w → IsLive k
+  none_left : (w : State) (answer : Answer) (y : _) → Fits GiveUpLastReference w → IsLast k
       → DidWith (before ++ row GiveUpLastReference w ∷ []) (Emptier None answer) (awaiter_first y []) x.party k.party → GivesBack before x k 9
 
 -- after these deeds the awaiter is taken where it is due: 7, its place is the party's; else the reference is given up
@@ -64,9 +72,9 @@ pub data Finishes (x k : Hand) : Option ℕ → ℕ → Type 0 where
       → Did (row EndNotify v ∷ row GiveUpReference w ∷ act EndCall ∷ []) as_ended x.party k.party → Finishes x k None 1
   wakes : (v w : State) (i : ℕ) → Fits GiveUpReference w → IsGone k
       → Did (row EndNotify v ∷ row GiveUpReference w ∷ act WakeAwaiter ∷ act EndCall ∷ []) as_ended x.party k.party → Finishes x k (Some i) 8
-  last : (v w : State) (y : _) → Fits GiveUpLastReference w → IsLive k
+  last : (v w : State) (y : _) → Fits GiveUpLastReference w → IsLast k
       → DidWith (row EndNotify v ∷ row GiveUpLastReference w ∷ []) (Emptier None (Ran false)) (awaiter_first y []) x.party k.party → Finishes x k None 9
-  last_wakes : (v w : State) (i : ℕ) (y : _) → Fits GiveUpLastReference w → IsLive k
+  last_wakes : (v w : State) (i : ℕ) (y : _) → Fits GiveUpLastReference w → IsLast k
       → DidWith (row EndNotify v ∷ row GiveUpLastReference w ∷ []) (Emptier (Some i) (Ran false)) (awaiter_first y []) x.party k.party
       → Finishes x k (Some i) 15
 
@@ -144,7 +152,7 @@ empties false = act EmptySlots ∷ act EndCall ∷ []
 -- has ended
 pub data DropsWaker (x k : Hand) : Option CellParty → ℕ → Type 0 where
   shared : (w : State) → others_left w ≡ true → IsGone k → Did (row DropWaker w ∷ act EndCall ∷ []) as_ended x.party k.party → DropsWaker x k None 1
-  last_waker : (w : State) (y : _) → others_left w ≡ false → is_open w ≡ false → IsLive k
+  last_waker : (w : State) (y : _) → others_left w ≡ false → is_open w ≡ false → IsLast k
       → DidWith (row DropLastWaker w ∷ []) (Emptier None Nothing) (awaiter_first y []) x.party k.party → DropsWaker x k None 9
   orphan_waker : (w v : State) (ended : CellParty) → others_left w ≡ false → is_open w ≡ true → IsLive k → Stands as_runnable k.party
       → Did (row OrphanTask w ∷ row CloseOrphan v ∷ act HandOver ∷ act EndCall ∷ []) as_ended x.party ended → DropsWaker x k (Some ended) 10

@@ -15,10 +15,18 @@ SameBits x y = y.share.maybe.id ≡ x.share.maybe.id
 abbrev pub IsLive : Hand → Type 0
 IsLive x = (x.share.maybe.there ≡ true) × (x.party.seat.block ≡ x.share.maybe.id) × (limit_of x.party ≡ x.share.maybe.key.limit)
 
+-- the last share is there, and the party is one of its cell
+abbrev pub IsLast : Hand → Type 0
+IsLast x = ((x.share.maybe.there ≡ false) × (x.share.maybe.last ≡ true)) × (x.party.seat.block ≡ x.share.maybe.id) × (limit_of x.party ≡ x.share.maybe.key.limit)
+
 -- the share is gone
 abbrev pub IsGone : Hand → Type 0
+<<<<<<< ours
 IsGone x = x.share.maybe.there ≡ false
 
 -- the record of a call by the hand x: its share is gone, and it has the same bits
 abbrev pub IsRecordOf : Hand → Hand → Type 0
 IsRecordOf x k = IsGone k × SameBits x k
+=======
+IsGone x = (x.share.maybe.there ≡ false) × (x.share.maybe.last ≡ false)
+>>>>>>> theirs

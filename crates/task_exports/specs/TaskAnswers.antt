@@ -28,7 +28,7 @@ use Rattle.task_cell.specs.PollPaths.{dropped_if}
 use Rattle.task_cell.specs.declared.cell.Party.{Party}
 use Rattle.task_cell.specs.declared.cell.Cell.{Cell}
 use Rattle.counted_block.specs.Blocks.{BlockId}
-use Rattle.task_exports.specs.Hands.{IsLive, IsGone}
+use Rattle.task_exports.specs.Hands.{IsLive, IsLast, IsGone}
 use Rattle.task_exports.specs.Parties.{CellParty, cell_in}
 use Rattle.task_exports.specs.declared.hand.Hand.{Hand}
 use Rattle.task_exports.specs.declared.handle.Handle.{Handle}
@@ -180,12 +180,16 @@ module _ {F T A : Type 0} where
 abbrev pub Becomes : Hand → Hand → Type 0
 Becomes x y = IsLive y × (cell_in y ≡ cell_in x)
 
+-- .. or its last share
+abbrev pub BecomesLast : Hand → Hand → Type 0
+BecomesLast x y = IsLast y × (cell_in y ≡ cell_in x)
+
 -- a detach: 1, the party has ended; 9, it was the last, and has the place of the awaiter, to be emptied; 5, the output is to be dropped;
 -- 10, the hand is that of the Runnable which was handed over, by a party that has ended
 pub data Detaches (x y : Hand) : Option CellParty → ℕ → Type 0 where
   detach_missed : HasMissed (2 ^ 64 - 1) y.party.seat.me → Detaches x y None 0
   is_shared : (w : State) → Fits Detach w → IsGone y → Did (row Detach w ∷ act EndCall ∷ []) as_ended x.party y.party → Detaches x y None 1
-  is_last : (w : State) (z : _) → Fits DetachLast w → Becomes x y
+  is_last : (w : State) (z : _) → Fits DetachLast w → BecomesLast x y
       → DidWith (row DetachLast w ∷ []) (Emptier None Nothing) (awaiter_first z []) x.party y.party → Detaches x y None 9
   is_unclaimed : (w : State) (z : _) → Fits GiveUpOutput w → IsOutput unknown z → Becomes x y
       → DidWith (row GiveUpOutput w ∷ []) OutputCloser (work_first z []) x.party y.party → Detaches x y None 5
@@ -197,7 +201,7 @@ pub data Detaches (x y : Hand) : Option CellParty → ℕ → Type 0 where
 pub data EndsDetach (x y : Hand) : ℕ → Type 0 where
   leaves_others : (w : State) → Fits Detach w → IsGone y → Did (act DropOutput ∷ row Detach w ∷ act EndCall ∷ []) as_ended x.party y.party
       → EndsDetach x y 1
-  leaves_none : (w : State) (z : _) → Fits DetachLast w → Becomes x y
+  leaves_none : (w : State) (z : _) → Fits DetachLast w → BecomesLast x y
       → DidWith (act DropOutput ∷ row DetachLast w ∷ []) (Emptier None Nothing) (awaiter_first z []) x.party y.party → EndsDetach x y 9
 
 -- a Runnable of this cell, by a share of it

@@ -1,8 +1,13 @@
 //! How calls end that give a reference up: the awaiter is taken where one is due, and the last handle empties the places.
 ghost use Rattle.std.specs.Prelude.{◌≡◌, ℕ, [], ◌∷◌, Option, None, is_some, true, false, if◌then◌else◌};
 ghost use Rattle.task_cell.specs.Calls.{Did, Stands, StandsWith};
+<<<<<<< ours
 ghost use Rattle.task_exports.specs.Answers.{BeginsDue, Finishes, GivesBack, GivesUpNext, GoesOn, IsFull, empties};
 ghost use Rattle.task_exports.specs.Hands.{IsGone, IsLive, SameBits};
+=======
+ghost use Rattle.task_exports.specs.Answers.{BeginsDue, Finishes, GivesBack, GivesUpNext, GoesOn, HasLast, IsFull, empties};
+ghost use Rattle.task_exports.specs.Hands.{IsGone, IsLast, IsLive};
+>>>>>>> theirs
 ghost use Rattle.task_laws.specs.Table.{notifies};
 ghost use Rattle.task_laws.specs.declared.positions.Answer.{Answer};
 ghost use Rattle.task_laws.specs.declared.positions.Answer.TheVariants.{Ran};
@@ -118,14 +123,14 @@ fn told(ended: bool) -> u32
 
 // Empties the places by the last handle, and ends the call.
 fn empty(hand: Hand, took: bool) -> (Hand, u32)
-    requires hand { IsLive hand }
+    requires hand { IsLast hand }
     requires party { (awaiter : Option ℕ) × (answer : Answer) × (y : _) × StandsWith (Emptier awaiter answer) (awaiter_first y []) hand.party × (is_some awaiter ≡ took) }
     ensures { IsGone result.0 × Did (empties took) as_ended hand.party result.0.party }
 {
     let Hand { share, mut party } = hand;
-    let share = share.share();
-    let gone = share.gone();
-    let (ledger, ended) = share.empty(&mut party);
+    let last = share.last();
+    let gone = last.gone();
+    let (ledger, ended) = last.empty(&mut party);
     let answer = told(ended);
     if took {
         ledger.note_woken(&mut party);
@@ -139,7 +144,7 @@ fn empty(hand: Hand, took: bool) -> (Hand, u32)
 /// Empties the places of a cell, by its last handle, and ends the call: 2, the cell has ended; 12, a hold keeps it. `took` says whether the call has an awaiter in hand, which is woken after this.
 #[unsafe(no_mangle)]
 pub extern "C" fn async_task_empty(h: &mut Handle, took: bool) -> u32
-    requires handle { IsFull h.old }
+    requires handle { HasLast h.old }
     requires party { (awaiter : Option ℕ) × (answer : Answer) × (y : _) × StandsWith (Emptier awaiter answer) (awaiter_first y []) h.old.hand.party × (is_some awaiter ≡ took) }
     ensures there { h.new.there ≡ true }
     ensures path { IsGone h.new.hand × Did (empties took) as_ended h.old.hand.party h.new.hand.party }

@@ -27,8 +27,7 @@ fn drop_reference(hand: Hand) -> (Hand, u32, Option<Hand>)
         Dropped::Shared => (Hand { share, party }, OVER, None),
         Dropped::Last => (Hand { share, party }, LAST, None),
         Dropped::Orphaned => {
-            let owned = share.share();
-            owned.close_orphan(&mut party);
+            let owned = share.last().close_orphan(&mut party);
             let (hand, ended) = hand_on(owned, party);
             (hand, SCHEDULE, Some(ended))
         }

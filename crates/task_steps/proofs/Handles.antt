@@ -1,5 +1,5 @@
 -- What the acts of each step do to the handles that the word counts.
-use Rattle.std.proofs.Common.{◌≡◌, ℕ, zero, suc, ◌+◌, ◌-◌, ◌≤◌, Bool, true, false, not, ◌&&◌, Option, List, [], ◌∷◌, inl, inr, refl, sym, ap, ◌∙◌, arith}
+use Rattle.std.proofs.Common.{◌≡◌, ℕ, ◌+◌, ◌-◌, ◌≤◌, Bool, true, false, not, ◌&&◌, eqb, eq-eqb, ne_eqb, Option, List, [], ◌∷◌, inl, inr, refl, sym, ap, arith}
 use Rattle.std.specs.Prelude.{nat_lt, nat_eq, if◌then◌else◌}
 use Rattle.std.proofs.lemmas.Bool.Decides.{nat_tests}
 use Rattle.task_core.specs.Rows.{found}
@@ -9,7 +9,7 @@ use Rattle.task_steps.specs.Values.{Values}
 use Rattle.task_steps.specs.WakerScripts.{waking_task, brings_runnable, to_gain, to_wake, others_left, dropped_by, dropping_as, dropping_waker, ends_waker, closing_orphan}
 use Rattle.task_steps.specs.declared.waker.Dropped.{Dropped}
 use Rattle.task_steps.specs.declared.waker.Dropped.TheVariants.{Shared as DroppedShared, Last as DroppedLast, Orphaned as DroppedOrphan}
-use Rattle.task_steps.specs.TaskScripts.{closing, brings_share, detaching, ends_task, to_cancel, to_detach, giving_task_up}
+use Rattle.task_steps.specs.TaskScripts.{closing, brings_share, detaching, ends_task, ends_last, to_cancel, to_detach, giving_task_up}
 use Rattle.task_steps.specs.RunScripts.{giving_up, ending_pending, ends_run, to_end_pending}
 use Rattle.task_steps.specs.declared.task.Cancelled.{Cancelled}
 use Rattle.task_steps.specs.declared.task.Cancelled.TheVariants.{Busy, Idle as Closed}
@@ -20,11 +20,11 @@ use Rattle.task_steps.specs.declared.waker.Woken.TheVariants.{Scheduled, Running
 use Rattle.task_steps.specs.declared.run.PendingEnd.{PendingEnd}
 use Rattle.task_steps.specs.declared.run.PendingEnd.TheVariants.{Rescheduled, Idle as EndsIdle, Orphaned}
 use Rattle.task_steps.specs.Attempt.{word_after, acts_on}
-use Rattle.task_steps.specs.Shares.{handles, at_least_one, has_references}
+use Rattle.task_steps.specs.Shares.{has_references}
 use Rattle.task_steps.proofs.Facts.{counted}
 use Rattle.task_steps.proofs.Advance.{Finds}
 use Rattle.task_steps.proofs.Seen.{left_true}
-use Rattle.task_steps.proofs.Shares.{shares_of, Brings, Gives, Moves}
+use Rattle.task_steps.proofs.Shares.{shares_of, Brings, Parts, Gives, Moves}
 use Rattle.task_steps.proofs.TaskOwed.{has_task}
 
 one_if : (b : Bool) → b ≡ true → bit b ≡ 1
@@ -33,32 +33,12 @@ one_if b e = ap bit e
 none_if : (b : Bool) → b ≡ false → bit b ≡ 0
 none_if b e = ap bit e
 
--- a handle more, and one less
-one_more : (n : ℕ) → 1 ≤ n → at_least_one (n + 1) ≡ at_least_one n + 1
-one_more zero h = absurd (omega arith)
-one_more (suc n) h = ap at_least_one (plus_one (suc n)) ∙ sym (plus_one (suc n))
-  where
-    plus_one : (k : ℕ) → k + 1 ≡ suc k
-    plus_one k = omega arith
+-- no handle is left, or some are
+none_after : (n : ℕ) → n ≡ 0 → true ≡ eqb n 0
+none_after n e = sym (eq-eqb n 0 e)
 
-at_least : (n : ℕ) → 1 ≤ n → at_least_one n ≡ n
-at_least zero h = absurd (omega arith)
-at_least (suc n) h = refl
-
-at_most_one : (n : ℕ) → n ≤ 1 → at_least_one n ≡ 1
-at_most_one zero h = refl
-at_most_one (suc zero) h = refl
-at_most_one (suc (suc n)) h = absurd (omega arith)
-
-less_one : (n k : ℕ) → k + 1 ≡ n → 1 ≤ k → at_least_one k + 1 ≡ at_least_one n
-less_one n k e h = ap (λ z. z + 1) (at_least k h) ∙ (e ∙ sym (at_least n (omega arith)))
-
--- neither of two numbers of handles is more than one
-last_one : (n k : ℕ) → n ≤ 1 → k ≤ 1 → at_least_one k ≡ at_least_one n
-last_one n k h g = at_most_one k g ∙ sym (at_most_one n h)
-
-held_one : (w : State) → is_held w ≡ true → 1 ≤ w.references + bit w.task
-held_one w e = grind (arith, nat_tests)
+some_after : (n : ℕ) → 1 ≤ n → false ≡ eqb n 0
+some_after n h = sym (ne_eqb n 0 (λ e. omega (arith, h, e)))
 
 others_one : (w : State) → others_left w ≡ true → 1 ≤ w.references → 2 ≤ w.references + bit w.task
 others_one w e h = grind (arith, nat_tests)
@@ -84,9 +64,6 @@ finishing_held limit w slots t c h e = grind arith
 pending_held : (limit : ℕ) (w : State) (slots : Slots) (t : List Event) (c : Census) → Holds limit w slots t c → 1 ≤ c.pending → 1 ≤ w.references
 pending_held limit w slots t c h e = grind arith
 
-orphan_free : (limit : ℕ) (w : State) (slots : Slots) (t : List Event) (c : Census) → Holds limit w slots t c → 1 ≤ c.orphans → (w.references ≡ 0) × (w.task ≡ false)
-orphan_free limit w slots t c h e = (grind arith, grind arith)
-
 module _ (limit : ℕ) where
   finds_task : (n : ℕ) (ds : List Deed) (us : List Member) (m : Machine) → Finds limit (At (Task n)) ds us m → bit m.word.task ≡ 1
   finds_task n ds us m f = one_if m.word.task (has_task m.limit m.word m.slots m.trace (census m.parties) f.invariant.holds (counted (λ c. c.tasks) (λ a b. refl) m.parties f.number (At (Task n)) f.stands))
@@ -103,34 +80,25 @@ module _ (limit : ℕ) where
   finds_run : (ds : List Deed) (us : List Member) (m : Machine) → Finds limit Pending ds us m → 1 ≤ m.word.references
   finds_run ds us m f = pending_held m.limit m.word m.slots m.trace (census m.parties) f.invariant.holds (counted (λ c. c.pending) (λ a b. refl) m.parties f.number Pending f.stands)
 
-  finds_orphan : (ds : List Deed) (us : List Member) (m : Machine) → Finds limit OrphanHolder ds us m → (m.word.references ≡ 0) × (m.word.task ≡ false)
-  finds_orphan ds us m f = orphan_free m.limit m.word m.slots m.trace (census m.parties) f.invariant.holds (counted (λ c. c.orphans) (λ a b. refl) m.parties f.number OrphanHolder f.stands)
-
-  -- a reference more for a new waker, where the task has a handle
-  pub gains_handle : (r : Rest) (ds : List Deed) (us : List Member) (F T A : Type 0) (values : Values F T) → Moves F T A values limit Brings to_gain (At r) ds us
-  gains_handle r ds us F T A values m f applied = let held = held_one m.word (left_true (is_held m.word) _ applied) in inr (refl, (let sum : handles (word_after m.word (acts_on to_gain m.word)) ≡ handles m.word + 1 = omega arith in ap at_least_one sum ∙ one_more (handles m.word) held))
+  -- a reference more for a new waker
+  pub gains_handle : (r : Rest) (ds : List Deed) (us : List Member) (F T A : Type 0) (values : Values F T) → Moves F T A values limit (λ b _. Brings b) to_gain (At r) ds us
+  gains_handle r ds us F T A values m f applied = inr (refl, omega arith)
 
   -- a wake of an idle task makes a Runnable
-  pub wakes_task : (r : Rest) (ds : List Deed) (us : List Member) (F T A : Type 0) (values : Values F T) → Moves F T A values limit Brings to_wake (At r) ds us
+  pub wakes_task : (r : Rest) (ds : List Deed) (us : List Member) (F T A : Type 0) (values : Values F T) → Moves F T A values limit (λ b _. Brings b) to_wake (At r) ds us
   wakes_task r ds us F T A values m f applied = by (found 0 WakeIdle m.word) (found 0 WakeRunning m.word)
     where
-      held : 1 ≤ handles m.word
-      held = held_one m.word (left_true (is_held m.word) (is_open m.word) applied)
-
       by : (a b : Bool) → let row : Woken = if a then Idle else (if b then Running else Scheduled) in Brings (brings_runnable row) (shares_of m.word) (shares_of (word_after m.word (waking_task row)))
-      by true b = inr (refl, (let sum : m.word.references + 1 + bit m.word.task ≡ handles m.word + 1 = omega arith in ap at_least_one sum ∙ one_more (handles m.word) held))
+      by true b = inr (refl, omega arith)
       by false true = inl (refl, refl)
       by false false = inl (refl, refl)
 
   -- a cancel of an idle task makes a Runnable
-  pub cancels_task : (n : ℕ) (ds : List Deed) (us : List Member) (F T A : Type 0) (values : Values F T) → Moves F T A values limit Brings to_cancel (At (Task n)) ds us
+  pub cancels_task : (n : ℕ) (ds : List Deed) (us : List Member) (F T A : Type 0) (values : Values F T) → Moves F T A values limit (λ b _. Brings b) to_cancel (At (Task n)) ds us
   cancels_task n ds us F T A values m f applied = by (found 0 CancelIdle m.word)
     where
-      held : 1 ≤ handles m.word
-      held = let t = finds_task n ds us m f in omega arith
-
       by : (b : Bool) → let row : Cancelled = if b then Closed m.word.awaiter else Busy m.word.awaiter in Brings (brings_share row) (shares_of m.word) (shares_of (word_after m.word (closing row)))
-      by true = inr (refl, (let sum : m.word.references + 1 + bit m.word.task ≡ handles m.word + 1 = omega arith in ap at_least_one sum ∙ one_more (handles m.word) held))
+      by true = inr (refl, omega arith)
       by false = inl (refl, refl)
 
   -- a run of an open task that ends
@@ -140,10 +108,10 @@ module _ (limit : ℕ) where
       some : 1 ≤ m.word.references
       some = finds_run ds us m f
 
-      by : (s d : Bool) → m.word.scheduled ≡ s → others_left m.word ≡ d → let row : PendingEnd = if s then Rescheduled else (if d then EndsIdle else Orphaned) in Gives (ends_run row) (shares_of m.word) (shares_of (word_after m.word (ending_pending row)))
+      by : (s d : Bool) → m.word.scheduled ≡ s → others_left m.word ≡ d → let row : PendingEnd = if s then Rescheduled else (if d then EndsIdle else Orphaned) in Gives (ends_run row) false (shares_of m.word) (shares_of (word_after m.word (ending_pending row)))
       by true d h k = inl (refl, refl)
-      by false true h k = inr (refl, (let two = others_one m.word k some in less_one (handles m.word) (m.word.references - 1 + bit m.word.task) (omega arith) (omega arith)))
-      by false false h k = inl (refl, (let one = others_none m.word k in last_one (handles m.word) 1 one (omega arith)))
+      by false true h k = let one = some in let two = others_one m.word k one in inr (refl, omega arith, some_after (m.word.references - 1 + bit m.word.task) (omega arith))
+      by false false h k = let one = some in let most = others_none m.word k in inl (refl, omega arith)
 
   -- a Task that is given up
   pub detaches_task : (n : ℕ) (ds : List Deed) (us : List Member) (F T A : Type 0) (values : Values F T) → Moves F T A values limit Gives to_detach (At (Task n)) ds us
@@ -153,46 +121,42 @@ module _ (limit : ℕ) where
       task = finds_task n ds us m f
 
       by : (a b c : Bool) → found 0 Detach m.word ≡ a → found 0 DetachLast m.word ≡ b → found 0 DetachOrphan m.word ≡ c
-          → let row : Detached = if a then Shared else (if b then Last else (if c then OrphanedTask else Unclaimed)) in Gives (ends_task row) (shares_of m.word) (shares_of (word_after m.word (detaching row)))
-      by true b c fit x y = inr (refl, (let t = task in let some = some_references m.word (left_true _ (not (m.word.completed && not m.word.closed)) fit) in less_one (handles m.word) (m.word.references + 0) (omega arith) (omega arith)))
-      by false true c x fit y = inl (refl, (let t = task in let none = zero_references m.word (left_true _ m.word.closed fit) in last_one (handles m.word) (m.word.references + 0) (omega arith) (omega arith)))
-      by false false true x y fit = inl (refl, (let t = task in let none = zero_references m.word (left_true _ (is_open m.word) fit) in last_one (handles m.word) 1 (omega arith) (omega arith)))
+          → let row : Detached = if a then Shared else (if b then Last else (if c then OrphanedTask else Unclaimed)) in Gives (ends_task row) (ends_last row) (shares_of m.word) (shares_of (word_after m.word (detaching row)))
+      by true b c fit x y = let t = task in let some = some_references m.word (left_true _ (not (m.word.completed && not m.word.closed)) fit) in inr (refl, omega arith, some_after (m.word.references + 0) (omega arith))
+      by false true c x fit y = let t = task in let none = zero_references m.word (left_true _ m.word.closed fit) in inr (refl, omega arith, none_after (m.word.references + 0) (omega arith))
+      by false false true x y fit = let t = task in let none = zero_references m.word (left_true _ (is_open m.word) fit) in inl (refl, omega arith)
       by false false false x y z = inl (refl, refl)
 
   -- a fetch that takes a reference off
-  fewer_references : (w : State) → 1 ≤ w.references → Gives (others_left w) (shares_of w) (at_least_one (w.references - 1 + bit w.task))
-  fewer_references w some = by (others_left w) refl
+  fewer_references : (w : State) → 1 ≤ w.references → Parts (not (others_left w)) (shares_of w) (w.references - 1 + bit w.task)
+  fewer_references w some = (omega arith, by (others_left w) refl)
     where
-      by : (b : Bool) → others_left w ≡ b → Gives b (shares_of w) (at_least_one (w.references - 1 + bit w.task))
-      by true h = inr (refl, (let two = others_one w h some in less_one (handles w) (w.references - 1 + bit w.task) (omega arith) (omega arith)))
-      by false h = inl (refl, (let one = others_none w h in last_one (handles w) (w.references - 1 + bit w.task) one (omega arith)))
+      by : (b : Bool) → others_left w ≡ b → not b ≡ eqb (w.references - 1 + bit w.task) 0
+      by true h = let one = some in let two = others_one w h one in some_after (w.references - 1 + bit w.task) (omega arith)
+      by false h = let one = some in let most = others_none w h in none_after (w.references - 1 + bit w.task) (omega arith)
 
-  pub drops_handle : (ds : List Deed) (us : List Member) (m : Machine) → Finds limit (At Waker) ds us m → Gives (ends_waker (dropped_by m.word)) (shares_of m.word) (shares_of (word_after m.word (dropping_waker m.word)))
+  pub drops_handle : (ds : List Deed) (us : List Member) (m : Machine) → Finds limit (At Waker) ds us m → Parts (not (ends_waker (dropped_by m.word))) (shares_of m.word) (shares_of (word_after m.word (dropping_waker m.word)))
   drops_handle ds us m f = by (others_left m.word) (is_open m.word) (fewer_references m.word (finds_waker ds us m f))
     where
-      by : (b o : Bool) → Gives b (shares_of m.word) (at_least_one (m.word.references - 1 + bit m.word.task)) → let row : Dropped = if b then DroppedShared else (if o then DroppedOrphan else DroppedLast) in Gives (ends_waker row) (shares_of m.word) (shares_of (word_after m.word (dropping_as row)))
+      by : (b o : Bool) → Parts (not b) (shares_of m.word) (m.word.references - 1 + bit m.word.task) → let row : Dropped = if b then DroppedShared else (if o then DroppedOrphan else DroppedLast) in Parts (not (ends_waker row)) (shares_of m.word) (shares_of (word_after m.word (dropping_as row)))
       by true o x = x
       by false true x = x
       by false false x = x
 
-  pub gives_reference : (hand : Option ℕ) (answer : Answer) (ds : List Deed) (us : List Member) (m : Machine) → Finds limit (GivingUp hand answer) ds us m → Gives (others_left m.word) (shares_of m.word) (shares_of (word_after m.word (giving_up m.word)))
+  pub gives_reference : (hand : Option ℕ) (answer : Answer) (ds : List Deed) (us : List Member) (m : Machine) → Finds limit (GivingUp hand answer) ds us m → Parts (not (others_left m.word)) (shares_of m.word) (shares_of (word_after m.word (giving_up m.word)))
   gives_reference hand answer ds us m f = by (others_left m.word) (fewer_references m.word (finds_rest hand answer ds us m f))
     where
-      by : (b : Bool) → Gives (others_left m.word) (shares_of m.word) (at_least_one (m.word.references - 1 + bit m.word.task)) → Gives (others_left m.word) (shares_of m.word) (shares_of (word_after m.word (if b then GiveUpReference ∷ [] else GiveUpLastReference ∷ [])))
+      by : (b : Bool) → Parts (not (others_left m.word)) (shares_of m.word) (m.word.references - 1 + bit m.word.task) → Parts (not (others_left m.word)) (shares_of m.word) (shares_of (word_after m.word (if b then GiveUpReference ∷ [] else GiveUpLastReference ∷ [])))
       by true x = x
       by false x = x
 
   -- a fetch that takes the Task off
-  pub gives_task : (ds : List Deed) (us : List Member) (m : Machine) → Finds limit Detacher ds us m → Gives (has_references m.word) (shares_of m.word) (shares_of (word_after m.word (giving_task_up m.word)))
+  pub gives_task : (ds : List Deed) (us : List Member) (m : Machine) → Finds limit Detacher ds us m → Parts (not (has_references m.word)) (shares_of m.word) (shares_of (word_after m.word (giving_task_up m.word)))
   gives_task ds us m f = by (nat_lt 0 m.word.references) refl
     where
       task : bit m.word.task ≡ 1
       task = finds_detacher ds us m f
 
-      by : (b : Bool) → nat_lt 0 m.word.references ≡ b → Gives b (shares_of m.word) (shares_of (word_after m.word (if b then Detach ∷ EndCall ∷ [] else DetachLast ∷ [])))
-      by true h = inr (refl, (let t = task in let some = some_references m.word h in less_one (handles m.word) (m.word.references + 0) (omega arith) (omega arith)))
-      by false h = inl (refl, (let t = task in let none = no_references m.word h in last_one (handles m.word) (m.word.references + 0) (omega arith) (omega arith)))
-
-  -- the holder of an orphan has the one share, as its Runnable has it then
-  pub keeps_orphan : (ds : List Deed) (us : List Member) (m : Machine) → Finds limit OrphanHolder ds us m → shares_of (word_after m.word (closing_orphan m.word)) ≡ shares_of m.word
-  keeps_orphan ds us m f = let free = finds_orphan ds us m f in let none = none_if m.word.task free.1 in last_one (handles m.word) 1 (omega arith) (omega arith)
+      by : (b : Bool) → nat_lt 0 m.word.references ≡ b → Parts (not b) (shares_of m.word) (shares_of (word_after m.word (if b then Detach ∷ EndCall ∷ [] else DetachLast ∷ [])))
+      by true h = let t = task in let some = some_references m.word h in (omega arith, some_after (m.word.references + 0) (omega arith))
+      by false h = let t = task in let none = no_references m.word h in (omega arith, none_after (m.word.references + 0) (omega arith))

@@ -77,42 +77,6 @@ stays_ended : (l : ℕ) (a : Act) (w : State) → found l a w ≡ true → (a �
 stays_ended l CloseOrphan w f o e = let opened = o refl in grind (arith, nat_tests)
 stays_ended l a w f o e = grind (arith, nat_tests)
 
--- the task is over, and has no handle
-abbrev pub without_handles : State → Bool
-without_handles w = nat_eq w.references 0 && not w.task && not (is_open w)
-
--- who gains a reference has a handle, or finds one
-gainer : (s : Scene) (v : State) (p : Position) (o : Outcome) → outcome_at s v GainReference p ≡ Some o → (p ≡ At Runnable) ⊎ (p ≡ At Waker) ⊎ (is_held s.word ≡ true)
-gainer s v (At Runnable) o e = inl refl
-gainer s v (At Waker) o e = inr (inl refl)
-gainer s v (At Lent) o e = inr (inr (held (is_held s.word) _ e))
-  where
-    held : (b : Bool) (x : Outcome) → when b x ≡ Some o → b ≡ true
-    held true x e = refl
-    held false x e = absurd (cc)
-gainer s v _ o e = absurd (cc)
-
-has_reference : (limit : ℕ) (w : State) (slots : Slots) (t : List Event) (c : Census) → Holds limit w slots t c → 1 ≤ c.queued + c.wakers → 1 ≤ w.references
-has_reference limit w slots t c h e = grind arith
-
-not_held : (w : State) → without_handles w ≡ true → (w.references ≡ 0) × (is_held w ≡ false)
-not_held w e = (grind (arith, nat_tests), grind (arith, nat_tests))
-
--- so nobody gains one of a task that is over and has no handle
-gains_none : (n m : Machine) (s : Step) → Invariant n → Stepped n m s → without_handles n.word ≡ true → s.act ≡ GainReference → ⊥
-gains_none n m s i x e is = let none = not_held n.word e in ⊎_elim
-    (λ (at : x.at ≡ At Runnable). let held = has_reference n.limit n.word n.slots n.trace (census n.parties) i.holds (let q = counted (λ c. c.queued) (λ a b. refl) n.parties s.party (At Runnable) (at_index n.parties s.party (At Runnable) (x.here ∙ ap (λ p. Some p) at)) in omega arith) in let zero = none.0 in omega arith)
-    (λ rest. ⊎_elim
-    (λ (at : x.at ≡ At Waker). let held = has_reference n.limit n.word n.slots n.trace (census n.parties) i.holds (let q = counted (λ c. c.wakers) (λ a b. refl) n.parties s.party (At Waker) (at_index n.parties s.party (At Waker) (x.here ∙ ap (λ p. Some p) at)) in omega arith) in let zero = none.0 in omega arith)
-    (λ (held : is_held n.word ≡ true). let no = none.1 in cc) rest)
-    (gainer (scene n) (written GainReference n.word) x.at x.outcome (ap (λ a. outcome_at (scene n) (written a n.word) a x.at) (sym is) ∙ x.table))
-
--- a task that is over, and has no handle, gets none any more
-stays_without : (l : ℕ) (a : Act) (w : State) → found l a w ≡ true → (a ≡ GainReference → ⊥) → (a ≡ CloseOrphan → is_open w ≡ true) → without_handles w ≡ true → without_handles (written a w) ≡ true
-stays_without l GainReference w f g o e = absurd (g refl)
-stays_without l CloseOrphan w f g o e = let opened = o refl in grind (arith, nat_tests)
-stays_without l a w f g o e = grind (arith, nat_tests)
-
 either_true : (a b : Bool) → (a || b) ≡ true → (a ≡ true) ⊎ (b ≡ true)
 either_true true b e = inl refl
 either_true false b e = inr e
@@ -174,43 +138,3 @@ closed_stays limit k log m ds r d e = stays_seen (λ w. w.closed) closed_by_step
 
 pub ended_stays : (limit k : ℕ) (log : List Entry) (m : Machine) (ds : List Deed) → Reaches limit log m → DidLast k log ds → saw_ended ds ≡ true → has_ended m.word ≡ true
 ended_stays limit k log m ds r d e = stays_seen has_ended ended_by_step limit k log m ds r d e
-
-without_by_step : (n m : Machine) (s : Step) → Invariant n → Stepped n m s → without_handles n.word ≡ true → without_handles m.word ≡ true
-without_by_step n m s i x e = ap without_handles x.word ∙ stays_without n.limit s.act n.word x.fits (gains_none n m s i x e) (closes_open n m s i x) e
-
--- who empties the places stands there as the last
-emptier : (s : Scene) (v : State) (p : Position) (o : Outcome) → outcome_at s v EmptySlots p ≡ Some o → (hand : Option ℕ) × (answer : Answer) × (p ≡ Emptier hand answer)
-emptier s v (Emptier hand answer) o e = (hand, answer, refl)
-emptier s v _ o e = absurd (cc)
-
-emptied_facts : (limit : ℕ) (w : State) (slots : Slots) (t : List Event) (c : Census) → Holds limit w slots t c → 1 ≤ c.emptiers → without_handles w ≡ true
-emptied_facts limit w slots t c h e = grind (arith, nat_tests)
-
-emptying_finds : (n m : Machine) (s : Step) → Invariant n → Stepped n m s → s.act ≡ EmptySlots → without_handles m.word ≡ true
-emptying_finds n m s i x is = let at = emptier (scene n) (written EmptySlots n.word) x.at x.outcome (ap (λ a. outcome_at (scene n) (written a n.word) a x.at) (sym is) ∙ x.table) in
-    ap without_handles (x.word ∙ ap (λ a. written a n.word) is)
-    ∙ emptied_facts n.limit n.word n.slots n.trace (census n.parties) i.holds (counted (λ c. c.emptiers) (λ a b. refl) n.parties s.party (Emptier at.0 at.1) (at_index n.parties s.party (Emptier at.0 at.1) (x.here ∙ ap (λ p. Some p) at.2)))
-
-module _ (limit k : ℕ) where
-  is_that : (a : Act) → is_emptying a ≡ true → a ≡ EmptySlots
-  is_that EmptySlots e = refl
-  is_that _ e = absurd (cc)
-
-  log_emptied : (log : List Entry) (m : Machine) → Reaches limit log m → has_emptied (deeds_of k log) ≡ true → without_handles m.word ≡ true
-  log_emptied [] m r e = absurd (cc)
-  log_emptied (x ∷ log) m r e = let s = stepped r.0 m (record { party = x.party; act = x.deed.act }) r.3 in let i = law limit log r.0 r.1 in
-      by (λ did. emptying_finds r.0 m (record { party = x.party; act = x.deed.act }) i s (is_that x.deed.act did)) (λ before. without_by_step r.0 m (record { party = x.party; act = x.deed.act }) i s (log_emptied log r.0 r.1 before)) (eqb x.party k) e
-    where
-      by : (is_emptying x.deed.act ≡ true → without_handles m.word ≡ true) → (has_emptied (deeds_of k log) ≡ true → without_handles m.word ≡ true) → (b : Bool) → has_emptied (noted_if b x.deed (deeds_of k log)) ≡ true → without_handles m.word ≡ true
-      by now before true e = ⊎_elim now before (either_true (is_emptying x.deed.act) (has_emptied (deeds_of k log)) e)
-      by now before false e = before e
-
-  emptied_more : (ds older : List Deed) → has_emptied ds ≡ true → has_emptied (ds ++ older) ≡ true
-  emptied_more [] older e = absurd (cc)
-  emptied_more (d ∷ ds) older e = ⊎_elim
-      (λ (h : is_emptying d.act ≡ true). true_left (is_emptying d.act) (has_emptied (ds ++ older)) h)
-      (λ (h : has_emptied ds ≡ true). true_right (is_emptying d.act) (has_emptied (ds ++ older)) (emptied_more ds older h))
-      (either_true (is_emptying d.act) (has_emptied ds) e)
-
-  pub emptied_stays : (log : List Entry) (m : Machine) (ds : List Deed) → Reaches limit log m → DidLast k log ds → has_emptied ds ≡ true → without_handles m.word ≡ true
-  emptied_stays log m ds r d e = log_emptied log m r (ap has_emptied d.1 ∙ emptied_more ds d.0 e)

@@ -5,12 +5,13 @@ use Rattle.task_core.specs.Rows.{written}
 use Rattle.task_core.specs.declared.acts.Act.{Act}
 
 -- the words that the change applies to, by the limit of references; its row, which is what it finds there; by the row its acts, and whether it
--- makes or ends a share of the block; the words that end the attempt, and its acts then
+-- makes or ends a share of the block, and whether that one was the last; the words that end the attempt, and its acts then
 pub record Attempt (Row : Type 0) : Type 0 where
   pub applies : ℕ → State → Bool
   pub row : State → Row
   pub acts : Row → List Act
   pub counts : Row → Bool
+  pub lasts : Row → Bool
   pub ends : ℕ → State → Bool
   pub acts_at_end : State → List Act
 
@@ -27,6 +28,10 @@ module _ {Row : Type 0} where
   -- whether the change makes or ends a share on this word
   abbrev pub counts_on : Attempt Row → State → Bool
   counts_on a w = a.counts (a.row w)
+
+  -- whether the change ends the last share
+  abbrev pub lasts_on : Attempt Row → State → Bool
+  lasts_on a w = a.lasts (a.row w)
 
   -- the word that the change writes on this one, and its row
   abbrev pub next_of : Attempt Row → ℕ → State → Option (State × Row)

@@ -4,6 +4,7 @@ use mathlib.Core.Option.{none}
 use prog.Atomic.{either}
 use Rattle.atomic_table.specs.Table.{Me, Step, step, Allows}
 use Rattle.task_core.specs.Word.{HasRoom, State, bit, state_of, number_of}
+use Rattle.task_laws.specs.Asks.{is_held}
 use Rattle.task_steps.specs.declared.attempt.TriedOnce.{TriedOnce}
 use Rattle.task_steps.specs.declared.attempt.TriedOnce.TheVariants.{Made, Ended, Again}
 use Rattle.task_steps.specs.declared.table.Tries.{Tries}
@@ -37,9 +38,9 @@ having_seen t v = view v.limit (trying (head_of v.members).at (head_of v.members
 abbrev pub Decides : {Row : Type 0} → ℕ → Attempt Row → Type 0
 Decides limit a = (w : State) → (a.applies limit w || a.ends limit w) ≡ true
 
--- this word does neither
+-- this word does neither, though it shows a handle
 abbrev pub IsUndecided : {Row : Type 0} → ℕ → Attempt Row → State → Type 0
-IsUndecided limit a w = (a.applies limit w || a.ends limit w) ≡ false
+IsUndecided limit a w = (is_held w ≡ true) × ((a.applies limit w || a.ends limit w) ≡ false)
 
 module _ {F T A : Type 0} where
   -- what a load of an attempt tells: where the word ends the attempt, the acts of that end

@@ -26,6 +26,7 @@ to_look = record {
   row = λ w. w;
   acts = λ w. ClaimOutput ∷ [];
   counts = λ w. false;
+  lasts = λ row. false;
   ends = λ limit w. not (has_output w);
   acts_at_end = λ w. Look ∷ [];
 }
@@ -37,6 +38,7 @@ to_look_again = record {
   row = λ w. w;
   acts = λ w. Look ∷ ClaimOutput ∷ [];
   counts = λ w. false;
+  lasts = λ row. false;
   ends = λ limit w. not (has_output w);
   acts_at_end = λ w. if has_to_wait w then Look ∷ EndCall ∷ [] else Look ∷ [];
 }
@@ -56,6 +58,7 @@ to_begin_register = record {
   row = only;
   acts = λ row. CloneAwaiter ∷ BeginRegister ∷ StoreAwaiter ∷ [];
   counts = λ row. false;
+  lasts = λ row. false;
   ends = λ limit w. w.notifying;
   acts_at_end = λ w. CloneAwaiter ∷ FindNotify ∷ [];
 }
@@ -67,6 +70,7 @@ to_end_register = record {
   row = only;
   acts = λ row. EndRegister ∷ [];
   counts = λ row. false;
+  lasts = λ row. false;
   ends = λ limit w. w.notifying;
   acts_at_end = λ w. TakeAwaiter ∷ [];
 }

@@ -37,7 +37,7 @@ completing w = if found 0 Complete w then StoreOutput ∷ Complete ∷ [] else S
 
 -- that end as an attempt, which fits every word
 abbrev pub to_complete : Attempt State
-to_complete = record { applies = λ limit w. true; row = λ w. w; acts = completing; counts = λ w. false; ends = no_end; acts_at_end = no_acts }
+to_complete = record { applies = λ limit w. true; row = λ w. w; acts = completing; counts = λ w. false; lasts = λ w. false; ends = no_end; acts_at_end = no_acts }
 
 -- the poll of the future has answered Pending; where the task is closed, the future is dropped next
 abbrev pub answering_pending : State → List Act
@@ -65,6 +65,7 @@ to_end_pending = record {
   row = ending_of;
   acts = ending_pending;
   counts = ends_run;
+  lasts = λ row. false;
   ends = λ limit w. w.closed;
   acts_at_end = λ w. DropFuture ∷ [];
 }

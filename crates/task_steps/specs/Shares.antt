@@ -1,5 +1,5 @@
 -- How many shares of a task's block are out, by its word, and which steps change that.
-use Rattle.std.specs.Prelude.{◌≡◌, ℕ, zero, suc, ◌+◌, ◌==◌, Bool, true, false, ◌&&◌, ◌||◌, nat_lt, Option, List, [], ◌∷◌}
+use Rattle.std.specs.Prelude.{◌≡◌, ℕ, ◌+◌, ◌==◌, Bool, true, false, ◌&&◌, ◌||◌, nat_lt, Option, List, [], ◌∷◌}
 use prog.Atomic.{either}
 use Rattle.atomic_table.specs.Table.{Me, Step}
 use Rattle.counted_block.specs.Counts.{More, Less}
@@ -12,20 +12,15 @@ use Rattle.task_steps.specs.declared.table.Deed.{Deed}
 use Rattle.task_steps.specs.Values.{Values}
 use Rattle.task_steps.specs.Rule.{TaskPlace, RuleHolds}
 use Rattle.task_steps.specs.Attempts.{Names, having_seen}
-use Rattle.task_steps.specs.Attempt.{Attempt, word_after, acts_on, counts_on}
+use Rattle.task_steps.specs.Attempt.{Attempt, word_after, acts_on, counts_on, lasts_on}
 
 -- how many handles a word counts: one for each reference, and the Task
 abbrev pub handles : State → ℕ
 handles w = w.references + bit w.task
 
--- whoever gave up the last handle has its share still, until the block is closed
-abbrev pub at_least_one : ℕ → ℕ
-at_least_one zero = 1
-at_least_one (suc n) = suc n
-
--- how many shares are out, by the number in the word
+-- how many shares are out, by the number in the word: one for each handle
 abbrev pub shares_out : ℕ → ℕ
-shares_out n = at_least_one (handles (state_of n))
+shares_out n = handles (state_of n)
 
 -- the party has emptied the places: it had the last handle
 abbrev pub is_emptying : Act → Bool
@@ -53,9 +48,9 @@ module _ {F T A : Type 0} (values : Values F T) where
       → More (RuleHolds {A = A} values limit) shares_out id (having_seen t me.0) (λ n. either (n == number_of w) (number_of (word_after w (acts_on a w))) n)
       (λ n. (n == number_of w) && counts_on a (state_of n))
 
-  -- whatever the party has seen, each exchange of its attempt gives a share up where the change counts
+  -- whatever the party has seen, each exchange of its attempt gives a share up where the change counts, the last one where it says so
   abbrev pub MayGive : {Row : Type 0} → ℕ → ℕ → Me (TaskPlace F T A) View → Attempt Row → Type 0
   MayGive limit id me a =
       (t : Option Tries) (w : State) → a.applies limit w ≡ true → Names w t
       → Less (RuleHolds {A = A} values limit) shares_out id (having_seen t me.0) (λ n. either (n == number_of w) (number_of (word_after w (acts_on a w))) n)
-      (λ n. (n == number_of w) && counts_on a (state_of n))
+      (λ n. (n == number_of w) && counts_on a (state_of n)) (λ n. lasts_on a (state_of n))

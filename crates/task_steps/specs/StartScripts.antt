@@ -17,6 +17,7 @@ to_start_run = record {
   row = only;
   acts = λ row. StartRun ∷ StartPoll ∷ [];
   counts = λ row. false;
+  lasts = λ row. false;
   ends = λ limit w. w.closed;
   acts_at_end = taking_up_closed;
 }

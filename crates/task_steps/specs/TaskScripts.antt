@@ -37,6 +37,7 @@ to_cancel = record {
   row = closed_by;
   acts = closing;
   counts = brings_share;
+  lasts = λ row. false;
   ends = is_over;
   acts_at_end = λ w. CancelOver ∷ EndCall ∷ [];
 }
@@ -53,14 +54,20 @@ detaching Last = DetachLast ∷ []
 detaching Orphaned = DetachOrphan ∷ []
 detaching Unclaimed = GiveUpOutput ∷ []
 
--- such a row ends the Task's share too, where no output waits and a reference is left
+-- such a row ends the Task's share too, where no output waits and no Runnable is left to it
 abbrev pub ends_task : Detached → Bool
 ends_task Shared = true
+ends_task Last = true
 ends_task _ = false
+
+-- the share that it ends is the last one
+abbrev pub ends_last : Detached → Bool
+ends_last Last = true
+ends_last _ = false
 
 -- the Task is given up, whatever the word is
 abbrev pub to_detach : Attempt Detached
-to_detach = record { applies = λ limit w. true; row = given_up_by; acts = detaching; counts = ends_task; ends = no_end; acts_at_end = no_acts }
+to_detach = record { applies = λ limit w. true; row = given_up_by; acts = detaching; counts = ends_task; lasts = ends_last; ends = no_end; acts_at_end = no_acts }
 
 -- the Task is given up whose output was dropped
 abbrev pub giving_task_up : State → List Act

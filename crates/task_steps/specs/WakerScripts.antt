@@ -23,6 +23,7 @@ to_gain = record {
   row = only;
   acts = λ row. GainReference ∷ EndCall ∷ [];
   counts = λ row. true;
+  lasts = λ row. false;
   ends = at_limit;
   acts_at_end = λ w. FindLimit ∷ EndCall ∷ [];
 }
@@ -53,6 +54,7 @@ to_wake = record {
   row = woken_by;
   acts = waking_task;
   counts = brings_runnable;
+  lasts = λ row. false;
   ends = is_over;
   acts_at_end = λ w. WakeOver ∷ EndCall ∷ [];
 }
@@ -75,7 +77,7 @@ dropping_as Last = DropLastWaker ∷ []
 abbrev pub dropping_waker : State → List Act
 dropping_waker w = dropping_as (dropped_by w)
 
--- a waker is dropped with its share, where it is not the last handle
+-- a waker is dropped with its share, where other shares are left
 abbrev pub ends_waker : Dropped → Bool
 ends_waker Shared = true
 ends_waker _ = false

@@ -1,7 +1,7 @@
 //! Changes of the word that are tried until they are made, by compare and exchange.
 ghost use Rattle.std.specs.Prelude.{◌≡◌, ◌<◌};
-ghost use Rattle.task_core.specs.Word.{HasRoom};
-ghost use Rattle.task_steps.specs.Attempt.{Attempt, next_of, counts_on};
+ghost use Rattle.task_core.specs.Word.{HasRoom, state_of};
+ghost use Rattle.task_steps.specs.Attempt.{Attempt, next_of, counts_on, lasts_on};
 ghost use Rattle.task_steps.specs.Attempts.{observed, attempted};
 ghost use Rattle.task_steps.specs.Shares.{counted};
 ghost use Rattle.task_steps.specs.Values.{values_of};
@@ -61,4 +61,6 @@ impl<F: Yields, A, P: Change> BlockPlay<TaskPlace<F, Kept<F>, A>, View, Terms<F>
 impl<F: Yields, A, P: Change> CountPlay<TaskPlace<F, Kept<F>, A>, View, Terms<F>>
     for Attempting<P> {
     ghost counts = { counted (counts_on P.attempt) };
+
+    ghost lasts = { λ _ n. lasts_on P.attempt (state_of n) };
 }

@@ -5,7 +5,7 @@ ghost use Rattle.task_steps.specs.Held.{held};
 ghost use Rattle.task_steps.specs.Steps.{work_first, awaiter_first};
 
 use crate::kept::Kept;
-use crate::table::{Block, Slot, TaskSeat};
+use crate::table::{Block, LastBlock, Slot, TaskSeat};
 use std::alloc::Allocator;
 use task_core::{Wake, Yields};
 
@@ -126,6 +126,17 @@ pub fn put_output<F: Yields, A, V, B: Allocator>(
 /// Leaves no awaiter in its place, which the seat has in front, and answers the one that lay there.
 pub fn take_awaiter<F: Yields, A, V, B: Allocator>(
     block: &Block<F, A, V, B>,
+    seat: &mut TaskSeat<F, Kept<F>, A>,
+) -> Option<Held<A>>
+    requires { (seat.old.block ≡ block.now.id) × ((old : Option A) × (seat.old.me.1 ≡ awaiter_first old (rest seat.old.me.1))) }
+    ensures { (seat.new.block ≡ seat.old.block) × (seat.new.id ≡ seat.old.id) × (seat.old.me.1 ≡ awaiter_first (held result) (rest seat.old.me.1)) × (seat.new.me ≡ (seat.old.me.0, awaiter_first None (rest seat.old.me.1))) }
+{
+    in_hands(block.swap_second(seat, None))
+}
+
+/// The same by the last share.
+pub fn take_last_awaiter<F: Yields, A, V, B: Allocator>(
+    block: &LastBlock<F, A, V, B>,
     seat: &mut TaskSeat<F, Kept<F>, A>,
 ) -> Option<Held<A>>
     requires { (seat.old.block ≡ block.now.id) × ((old : Option A) × (seat.old.me.1 ≡ awaiter_first old (rest seat.old.me.1))) }

@@ -1,7 +1,7 @@
 //! The steps of the calls by name: which acts each makes, by the word that it finds.
 ghost use Rattle.task_steps.specs.Knows.{known};
 ghost use Rattle.task_steps.specs.Values.{values_of};
-ghost use Rattle.std.specs.Prelude.{List, Bool};
+ghost use Rattle.std.specs.Prelude.{List, Bool, true, not};
 ghost use Rattle.task_core.specs.Word.{State, state_of};
 ghost use Rattle.task_core.specs.declared.acts.Act.{Act};
 
@@ -15,7 +15,7 @@ pub trait Script {
     ghost acts: { State → List Act };
 }
 
-/// A step that gives a handle up: its share of the block ends with it where it `gives`, by the word that it finds.
+/// A step that gives a handle up, and its share of the block with it: others are left where it `gives`, by the word that it finds, and else that was the last.
 pub trait Giving: Script {
     ghost gives: { State → Bool };
 }
@@ -30,5 +30,7 @@ impl<F: Yields, A, P: Script> BlockPlay<TaskPlace<F, Kept<F>, A>, View, Terms<F>
 }
 
 impl<F: Yields, A, P: Giving> CountPlay<TaskPlace<F, Kept<F>, A>, View, Terms<F>> for Knowing<P> {
-    ghost counts = { λ _ n. P.gives (state_of n) };
+    ghost counts = { λ _ _. true };
+
+    ghost lasts = { λ _ n. not (P.gives (state_of n)) };
 }

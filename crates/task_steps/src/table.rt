@@ -7,7 +7,9 @@ ghost use Rattle.task_steps.specs.declared.table.Slot.{Slot};
 ghost use Rattle.task_steps.specs.Seats.{is_spent};
 
 pub use crate::kept::Kept;
-use counted_block::{Bare, BlockRule, Hold, Inner, Ledger, MaybeShare, Place, Seat, Share};
+use counted_block::{
+    Bare, BlockRule, Hold, Inner, LastShare, Ledger, MaybeShare, Place, Seat, Share,
+};
 use std::alloc::{AllocFailed, Allocator};
 use std::collections::LinkedList;
 use std::snapshot::Snapshot;
@@ -101,6 +103,9 @@ pub type MaybeBlock<F, A, V, B> = MaybeShare<
     V,
     B,
 >;
+
+/// What the owner of the last share of a task's block keeps, once no handle is left.
+pub type LastBlock<F, A, V, B> = LastShare<Slot<F, Kept<F>>, Option<A>, View, Terms<F>, Law, V, B>;
 
 /// A hold of a task's block.
 pub type BlockHold<F, A, V, B> = Hold<Slot<F, Kept<F>>, Option<A>, View, Terms<F>, Law, V, B>;

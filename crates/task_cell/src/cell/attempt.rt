@@ -1,12 +1,13 @@
 //! Every change of the word that is made by compare and exchange: one try, and the loop after a try that missed. A change may bring a share, or give the share up that it is tried with.
 //!
 //! One try cannot wait, and the loop may. After a call that may wait the compiler tests whether it has to stop, at each function in between. So a call that is to be fast begins with one try, and the loop is a function of its own, marked as rare.
-ghost use Rattle.std.specs.Prelude.{◌⊎◌, ◌≡◌, ◌<◌, not, IfOk, IfErr, Option, None, false, ⊤};
+ghost use Rattle.std.specs.Prelude.{◌⊎◌, ◌≡◌, ◌<◌, not, IfOk, IfErr, Option, None, true, false, ⊤};
+ghost use Rattle.task_laws.specs.Asks.{is_held};
 ghost use Rattle.task_core.specs.Word.{HasRoom, State};
 ghost use Rattle.task_steps.specs.declared.table.Tries.{Tries};
 ghost use Rattle.task_steps.specs.Attempts.{Names, having_seen, MayTry, HasChanged, HasEnded, HasSeen, HasTried, HasFound, TriesOn, HasLooked, HasMissed, IsUndecided, IfMade, IfAgain};
 ghost use Rattle.task_steps.specs.Shares.{MayBring, MayGive};
-ghost use Rattle.task_cell.specs.Belongs.{IsOf, IsSame, Leaves, limit_in, values_in};
+ghost use Rattle.task_cell.specs.Belongs.{IsOf, IsSame, Leaves, LeavesBy, limit_in, values_in};
 
 use super::{MaybeShare, Party, Share};
 use std::alloc::Allocator;
@@ -17,7 +18,7 @@ use task_steps::attempt::{Attempting, Change, Observing, TriedOnce};
 use task_steps::table::Kept;
 
 impl<R: Drop, F: Yields, Q: Drop, M: Drop, A: Drop, B: Allocator + Copy> Share<R, F, Q, M, A, B> {
-    // Looks at the word, by a load: the change is to be tried on it, or it is the error, and has ended the attempt.
+    // Looks at the word, by a load, which shows a handle: the change is to be tried on it, or it is the error, and has ended the attempt.
     #[inline(always)]
     fn observe<P: Change>(&self, party: &mut Party<F, Kept<F>, A>) -> Result<Word, Word>
         requires cell { IsOf self.now party.old }
@@ -27,6 +28,7 @@ impl<R: Drop, F: Yields, Q: Drop, M: Drop, A: Drop, B: Allocator + Copy> Share<R
         ensures seat { (party.new.seat.block ≡ party.old.seat.block) × (party.new.seat.id ≡ party.old.seat.id) }
         ensures again { IfOk result (λ w. HasRoom w × HasSeen w party.old.seat.me party.new.seat.me) }
         ensures found { IfOk result (λ w. (P.attempt.ends (limit_in self.now) w ≡ false) × HasFound w party.old.seat.me party.new.seat.me) }
+        ensures held { IfOk result (λ w. is_held w ≡ true) }
         ensures ended { IfErr result (λ w. HasEnded (values_in self.now) (limit_in self.now) P.attempt w party.old.seat.me party.new.seat.me) }
     {
         let word = Word::from_bits(self.block.load::<Observing<P>>(&mut party.seat));
@@ -89,7 +91,7 @@ impl<R: Drop, F: Yields, Q: Drop, M: Drop, A: Drop, B: Allocator + Copy> Share<R
         ensures seat { (party.new.seat.block ≡ party.old.seat.block) × (party.new.seat.id ≡ party.old.seat.id) }
         ensures tried { HasTried (values_in self) (limit_in self) P.attempt result party.old.seat.me party.new.seat.me }
         ensures again { IfAgain result (λ w. TriesOn (limit_in self) P.attempt word w party.old.seat.me party.new.seat.me) }
-        ensures share { IfMade result (λ row m. Leaves self m (not (P.attempt.counts row))) (λ k. IsSame self k) }
+        ensures share { IfMade result (λ row m. LeavesBy self m (not (P.attempt.counts row)) (P.attempt.lasts row)) (λ k. IsSame self k) }
     {
         let Some(made) = P::next(word, self.cell().limit) else {
             return match self.observe::<P>(party) {
@@ -182,7 +184,7 @@ impl<R: Drop, F: Yields, Q: Drop, M: Drop, A: Drop, B: Allocator + Copy> Share<R
         ensures seat { (party.new.seat.block ≡ party.old.seat.block) × (party.new.seat.id ≡ party.old.seat.id) }
         ensures tried { HasTried (values_in self) (limit_in self) P.attempt result party.old.seat.me party.new.seat.me }
         ensures looked { IfAgain result (λ w. HasLooked tries party.old.seat.me party.new.seat.me ⊎ IsUndecided (limit_in self) P.attempt w) }
-        ensures share { IfMade result (λ row m. Leaves self m (not (P.attempt.counts row))) (λ k. IsSame self k) }
+        ensures share { IfMade result (λ row m. LeavesBy self m (not (P.attempt.counts row)) (P.attempt.lasts row)) (λ k. IsSame self k) }
     {
         let mut share = self;
         for round in 0..tries {
@@ -216,7 +218,7 @@ impl<R: Drop, F: Yields, Q: Drop, M: Drop, A: Drop, B: Allocator + Copy> Share<R
         ensures cell { party.new.seat.block ≡ party.old.seat.block }
         ensures tried { HasTried (values_in self) (limit_in self) P.attempt result party.old.seat.me party.new.seat.me }
         ensures missed { IfAgain result (λ w. HasMissed tries party.new.seat.me ⊎ IsUndecided (limit_in self) P.attempt w) }
-        ensures share { IfMade result (λ row m. Leaves self m (not (P.attempt.counts row))) (λ k. IsSame self k) }
+        ensures share { IfMade result (λ row m. LeavesBy self m (not (P.attempt.counts row)) (P.attempt.lasts row)) (λ k. IsSame self k) }
     {
         match self.observe::<P>(party) {
             Ok(word) => self.give_some::<P>(party, word, tries),
@@ -347,7 +349,7 @@ impl<R: Wait + Drop + Copy, F: Yields, Q: Drop, M: Drop, A: Drop, B: Allocator +
         requires shares { MayGive (values_in self) (limit_in self) party.old.seat.id party.old.seat.me P.attempt }
         ensures cell { party.new.seat.block ≡ party.old.seat.block }
         ensures changed { IfOk result (λ r. HasChanged (values_in self) (limit_in self) P.attempt r.0 party.old.seat.me party.new.seat.me) }
-        ensures share { IfOk result (λ r. Leaves self r.1 (not (P.attempt.counts r.0))) }
+        ensures share { IfOk result (λ r. LeavesBy self r.1 (not (P.attempt.counts r.0)) (P.attempt.lasts r.0)) }
         ensures ended { IfErr result (λ r. HasEnded (values_in self) (limit_in self) P.attempt r.0 party.old.seat.me party.new.seat.me) }
         ensures kept { IfErr result (λ r. IsSame self r.1) }
     {
@@ -381,7 +383,7 @@ impl<R: Wait + Drop + Copy, F: Yields, Q: Drop, M: Drop, A: Drop, B: Allocator +
         requires shares { MayGive (values_in self) (limit_in self) party.old.seat.id party.old.seat.me P.attempt }
         ensures cell { party.new.seat.block ≡ party.old.seat.block }
         ensures changed { IfOk result (λ r. HasChanged (values_in self) (limit_in self) P.attempt r.0 party.old.seat.me party.new.seat.me) }
-        ensures share { IfOk result (λ r. Leaves self r.1 (not (P.attempt.counts r.0))) }
+        ensures share { IfOk result (λ r. LeavesBy self r.1 (not (P.attempt.counts r.0)) (P.attempt.lasts r.0)) }
         ensures ended { IfErr result (λ r. HasEnded (values_in self) (limit_in self) P.attempt r.0 party.old.seat.me party.new.seat.me) }
         ensures kept { IfErr result (λ r. IsSame self r.1) }
     {
@@ -409,7 +411,7 @@ impl<R: Wait + Drop + Copy, F: Yields, Q: Drop, M: Drop, A: Drop, B: Allocator +
         requires shares { MayGive (values_in self) (limit_in self) party.old.seat.id party.old.seat.me P.attempt }
         ensures cell { party.new.seat.block ≡ party.old.seat.block }
         ensures changed { HasChanged (values_in self) (limit_in self) P.attempt result.0 party.old.seat.me party.new.seat.me }
-        ensures share { Leaves self result.1 (not (P.attempt.counts result.0)) }
+        ensures share { LeavesBy self result.1 (not (P.attempt.counts result.0)) (P.attempt.lasts result.0) }
     {
         match self.observe::<P>(party) {
             Ok(word) => match self.give_from::<P>(party, word) {

@@ -4,7 +4,7 @@ ghost use Rattle.task_cell.specs.Fitting.{Fitting};
 use super::Cell;
 use std::alloc::{Allocator, Global};
 use task_core::Yields;
-use task_steps::table::{Block, Kept, MaybeBlock};
+use task_steps::table::{Block, Kept, LastBlock, MaybeBlock};
 
 /// A share of a cell, as many as its word has handles: a pointer, and no count beside the word. It must be spent: it goes on with the handle that it is for, or ends with a step that gives the handle up.
 pub struct Share<R, F: Yields, Q, M, A, B: Allocator + Copy = Global> {
@@ -12,8 +12,14 @@ pub struct Share<R, F: Yields, Q, M, A, B: Allocator + Copy = Global> {
     ghost fitting: { Fitting block.key.limit block.value block.heap },
 }
 
-/// A share that a step may have made or left. It must be spent: the caller looks at the word that the step found, and takes the share or knows that there is none.
+/// A share, or the last one, that a step may have made or left. It must be spent: the caller looks at the word that the step found, and takes what is there or knows that there is none.
 pub struct MaybeShare<R, F: Yields, Q, M, A, B: Allocator + Copy = Global> {
     pub(crate) maybe: MaybeBlock<F, A, Cell<R, Q, M, B>, B>,
     ghost fitting: { Fitting maybe.key.limit maybe.value maybe.heap },
+}
+
+/// What a party keeps that gave the last handle up: it empties the places and ends the cell, or has a handle again. It must be spent.
+pub struct LastShare<R, F: Yields, Q, M, A, B: Allocator + Copy = Global> {
+    pub(crate) block: LastBlock<F, A, Cell<R, Q, M, B>, B>,
+    ghost fitting: { Fitting block.key.limit block.value block.heap },
 }

@@ -11,9 +11,9 @@ ghost use Rattle.task_cell.specs.Handed.{HandedOver};
 ghost use Rattle.task_cell.specs.Calls.{Stands, StandsWith, Did, deeds, limit_of};
 ghost use Rattle.task_steps.specs.Attempts.{HasMissed};
 ghost use Rattle.task_steps.specs.Deeds.{act};
-ghost use Rattle.task_steps.specs.TaskScripts.{ends_task};
+ghost use Rattle.task_steps.specs.TaskScripts.{ends_task, ends_last};
 ghost use Rattle.task_steps.specs.Standing.{as_task, as_ended};
-ghost use Rattle.task_cell.specs.Belongs.{IsOf, IsSame, Leaves, cell_of, limit_in, values_in};
+ghost use Rattle.task_cell.specs.Belongs.{IsOf, IsSame, LeavesBy, cell_of, limit_in, values_in};
 
 use super::{MaybeShare, Party, Runnable, Share};
 use std::alloc::Allocator;
@@ -36,7 +36,7 @@ impl<R: Drop, F: Yields, Q: Drop, M: Drop, A: Drop, B: Allocator + Copy> Share<R
         self.load::<DroppingOutput>(party);
     }
 
-    /// Takes the output out that nobody claimed, and then gives the Task up, by a single fetch. Whether the slots are to be emptied, then the Task's share, and the output, which is dropped last.
+    /// Takes the output out that nobody claimed, and then gives the Task up, by a single fetch. Whether the slots are to be emptied, then the last share, and the output, which is dropped last.
     pub fn take_unclaimed(
         self,
         party: &mut Party<F, Kept<F>, A>,
@@ -44,7 +44,7 @@ impl<R: Drop, F: Yields, Q: Drop, M: Drop, A: Drop, B: Allocator + Copy> Share<R
         requires cell { IsOf self party.old }
         requires party { (z : Slot F _) × StandsWith OutputCloser (work_first z []) party.old × (saw_closed (deeds party.old) ≡ true) }
         ensures path { GivesTaskUp party.old party.new result.0 }
-        ensures share { Leaves self result.1 result.0 }
+        ensures share { LeavesBy self result.1 false result.0 }
     {
         let unclaimed = self.take(party);
         self.note_output_dropped(party);
@@ -52,7 +52,7 @@ impl<R: Drop, F: Yields, Q: Drop, M: Drop, A: Drop, B: Allocator + Copy> Share<R
         (found.references() == 0, maybe, unclaimed)
     }
 
-    /// The row of a detach, by at most 2^64 - 1 tries: what it found, and the Task's share, if it is left. The error is the share, where each try has missed.
+    /// The row of a detach, by at most 2^64 - 1 tries: what it found, and what is left of the Task's share. The error is the share, where each try has missed.
     pub fn give_task_up_some(
         self,
         party: &mut Party<F, Kept<F>, A>,
@@ -60,7 +60,7 @@ impl<R: Drop, F: Yields, Q: Drop, M: Drop, A: Drop, B: Allocator + Copy> Share<R
         requires cell { IsOf self party.old }
         requires party { (n : ℕ) × Stands (as_task n) party.old }
         ensures path { IfOk result (λ found. Detaches (values_in self) party.old party.new found.0) }
-        ensures share { IfOk result (λ found. Leaves self found.1 (not (ends_task found.0))) }
+        ensures share { IfOk result (λ found. LeavesBy self found.1 (not (ends_task found.0)) (ends_last found.0)) }
         ensures kept { IfErr result (λ kept. IsSame self kept) }
         ensures missed { IfErr result (λ _. HasMissed (2 ^ 64 - 1) party.new.seat.me) }
     {
@@ -80,7 +80,7 @@ impl<R: Wait + Drop + Copy, F: Yields, Q: Drop, M: Drop, A: Drop, B: Allocator +
     A,
     B,
 > {
-    // The row of a detach: what it found, and the Task's share, if it is left.
+    // The row of a detach: what it found, and what is left of the Task's share.
     fn give_task_up(
         self,
         party: &mut Party<F, Kept<F>, A>,
@@ -88,7 +88,7 @@ impl<R: Wait + Drop + Copy, F: Yields, Q: Drop, M: Drop, A: Drop, B: Allocator +
         requires cell { IsOf self party.old }
         requires party { (n : ℕ) × Stands (as_task n) party.old }
         ensures path { Detaches (values_in self) party.old party.new result.0 }
-        ensures share { Leaves self result.1 (not (ends_task result.0)) }
+        ensures share { LeavesBy self result.1 (not (ends_task result.0)) (ends_last result.0) }
     {
         self.give_change::<Detaching>(party)
     }
@@ -110,7 +110,7 @@ impl<R: Wait + Drop + Copy, F: Yields, Q: Drop, M: Drop, A: Wake, B: Allocator +
     {
         let (last, maybe, unclaimed) = self.take_unclaimed(party);
         if last {
-            maybe.share().empty_at_end(party);
+            maybe.last().empty_at_end(party);
             unclaimed.discard();
         } else {
             maybe.none();
@@ -132,7 +132,7 @@ impl<R: Wait + Drop + Copy, F: Yields, Q: Drop, M: Drop, A: Wake, B: Allocator +
             Detached::Shared => {
                 maybe.none();
             }
-            Detached::Last => maybe.share().empty_at_end(party),
+            Detached::Last => maybe.last().empty_at_end(party),
             Detached::Orphaned => maybe.share().hand_on(party, around, false),
         }
     }

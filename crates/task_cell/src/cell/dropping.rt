@@ -1,30 +1,23 @@
 //! A waker that is dropped.
-ghost use Rattle.std.specs.Prelude.{◌≡◌, ℕ, [], ◌∷◌, List, false, not};
-ghost use Rattle.task_core.specs.Word.{State};
-ghost use Rattle.task_laws.specs.declared.positions.Position.TheVariants.{OrphanHolder};
-ghost use Rattle.task_core.specs.declared.acts.Act.TheVariants.{CloseOrphan};
+ghost use Rattle.std.specs.Prelude.{◌≡◌, ℕ, List, false, not};
 ghost use Rattle.task_steps.specs.declared.table.Deed.{Deed};
 ghost use Rattle.task_cell.specs.Handed.{HandedOver};
 ghost use Rattle.task_cell.specs.Calls.{Stands, Did, limit_of};
-ghost use Rattle.task_steps.specs.Deeds.{row};
 ghost use Rattle.task_steps.specs.WakerScripts.{ends_waker};
-ghost use Rattle.task_steps.specs.Standing.{as_ended, as_waker, as_deliverer};
+ghost use Rattle.task_steps.specs.Standing.{as_ended, as_waker};
 ghost use Rattle.task_cell.specs.WakerPaths.{DropsWaker, WakerDropPath};
-ghost use Rattle.task_cell.specs.Belongs.{IsOf, Leaves, cell_of, limit_in};
+ghost use Rattle.task_cell.specs.Belongs.{IsOf, LeavesBy, cell_of, limit_in};
 
 use super::{MaybeShare, Party, Runnable, Share};
 use std::alloc::Allocator;
 use std::sync::Wait;
-use task_core::word::{CLOSED, REFERENCE, SCHEDULED};
+use task_core::word::REFERENCE;
 use task_core::{Schedule, Wake, Yields};
 use task_steps::table::Kept;
-use task_steps::waker::{ClosingOrphan, Dropped, DroppingWaker, dropped_as};
-
-/// The word of a task that nobody has: scheduled, closed, and with the reference of its last Runnable.
-const ORPHAN: u64 = SCHEDULED | CLOSED | REFERENCE;
+use task_steps::waker::{Dropped, DroppingWaker, dropped_as};
 
 impl<R: Drop, F: Yields, Q: Drop, M: Drop, A: Drop, B: Allocator + Copy> Share<R, F, Q, M, A, B> {
-    /// The row of a waker's drop: a single fetch, never tried again. What it found, and the waker's share, where it was the last handle.
+    /// The row of a waker's drop: a single fetch, never tried again. What it found, and the last share, where it was the last handle.
     pub fn drop_reference(
         self,
         party: &mut Party<F, Kept<F>, A>,
@@ -32,19 +25,10 @@ impl<R: Drop, F: Yields, Q: Drop, M: Drop, A: Drop, B: Allocator + Copy> Share<R
         requires cell { IsOf self party.old }
         requires party { Stands as_waker party.old }
         ensures path { DropsWaker party.old party.new result.0 }
-        ensures share { Leaves self result.1 (not (ends_waker result.0)) }
+        ensures share { LeavesBy self result.1 false (not (ends_waker result.0)) }
     {
         let (found, maybe) = self.give::<DroppingWaker>(party, REFERENCE);
         (dropped_as(found), maybe)
-    }
-
-    /// Closes an open task, as its last waker, and schedules it once more. Nobody else is left to change the word.
-    pub fn close_orphan(&self, party: &mut Party<F, Kept<F>, A>)
-        requires cell { IsOf self.now party.old }
-        requires party { Stands OrphanHolder party.old }
-        ensures { (v : State) × Did (row CloseOrphan v ∷ []) as_deliverer party.old party.new }
-    {
-        self.swap::<ClosingOrphan>(party, ORPHAN);
     }
 }
 
@@ -69,10 +53,9 @@ impl<R: Wait + Drop + Copy, F: Yields, Q: Drop, M: Drop, A: Wake, B: Allocator +
             Dropped::Shared => {
                 maybe.none();
             }
-            Dropped::Last => maybe.share().empty_at_end(party),
+            Dropped::Last => maybe.last().empty_at_end(party),
             Dropped::Orphaned => {
-                let share = maybe.share();
-                share.close_orphan(party);
+                let share = maybe.last().close_orphan(party);
                 share.hand_on(party, around, false);
             }
         }

@@ -1,19 +1,11 @@
-//! What a share of a cell shows, and how the last one ends.
-ghost use Rattle.std.specs.Prelude.{◌≡◌, [], true, false, None, IfSome};
-ghost use Rattle.task_cell.specs.Belongs.{IsOf, Leaves};
-ghost use Rattle.task_cell.specs.Calls.{StandsWith, deeds};
-ghost use Rattle.task_cell.specs.Witnessed.{LastWordIf, Witnesses};
-ghost use Rattle.task_core.specs.Word.{state_of};
-ghost use Rattle.task_laws.specs.declared.positions.Position.{Position};
-ghost use Rattle.task_steps.specs.Rule.{IsEmpty, Waits};
-ghost use Rattle.task_steps.specs.Shares.{has_emptied};
+//! What a share of a cell shows, and what a step has left of one.
+ghost use Rattle.std.specs.Prelude.{◌≡◌, true, false};
+ghost use Rattle.task_cell.specs.Belongs.{Leaves};
 
 use super::ledger::Ledger;
-use super::{Cell, MaybeShare, Party, Share};
-use counted_block::Inner;
+use super::{Cell, LastShare, MaybeShare, Share};
 use std::alloc::Allocator;
 use task_core::Yields;
-use task_steps::table::{Kept, Slot};
 
 impl<R, F: Yields, Q, M, A, B: Allocator + Copy> Share<R, F, Q, M, A, B> {
     /// What all handles of the task see.
@@ -65,40 +57,6 @@ impl<R, F: Yields, Q, M, A, B: Allocator + Copy> Share<R, F, Q, M, A, B> {
     }
 }
 
-impl<R: Drop, F: Yields, Q: Drop, M: Drop, A: Drop, B: Allocator + Copy> Share<R, F, Q, M, A, B> {
-    // Ends the last share, of a party that has emptied the places: the block, unless a schedule call holds it, which has it then. Neither future nor output nor awaiter is in it.
-    fn end_block(
-        self,
-        party: &mut Party<F, Kept<F>, A>,
-    ) -> Option<Inner<Slot<F, Kept<F>>, Option<A>, Cell<R, Q, M, B>>>
-        requires cell { IsOf self party.old }
-        requires party { (at : Position) × StandsWith at [] party.old }
-        requires last { has_emptied (deeds party.old) ≡ true }
-        ensures party { (party.new.seat.block ≡ party.old.seat.block) × (party.new.seat.me ≡ party.old.seat.me) }
-        ensures word { IfSome result (λ inner. Witnesses party.old (state_of inner.word)) }
-        ensures empty { IfSome result (λ inner. IsEmpty inner.first × Waits None inner.second) }
-    {
-        let alloc = self.cell().alloc;
-        let Share { block } = self;
-        let whole = block.close(&mut party.seat)?.into_box(alloc);
-        Some(Box::into_inner(whole))
-    }
-
-    // Ends the last share, of a party that has emptied the places. The cell ends too, unless a schedule call holds it. The last word, and what it means.
-    pub(crate) fn close(self, party: &mut Party<F, Kept<F>, A>) -> Option<u64>
-        requires cell { IsOf self party.old }
-        requires party { (at : Position) × StandsWith at [] party.old }
-        requires last { has_emptied (deeds party.old) ≡ true }
-        ensures party { (party.new.seat.block ≡ party.old.seat.block) × (party.new.seat.me ≡ party.old.seat.me) }
-        ensures word { LastWordIf result party.old }
-    {
-        let inner = self.end_block(party)?;
-        let word = inner.word;
-        drop(inner);
-        Some(word)
-    }
-}
-
 impl<R, F: Yields, Q, M, A, B: Allocator + Copy> MaybeShare<R, F, Q, M, A, B> {
     /// The share, where the step made or left one.
     pub fn share(self) -> Share<R, F, Q, M, A, B>
@@ -111,9 +69,21 @@ impl<R, F: Yields, Q, M, A, B: Allocator + Copy> MaybeShare<R, F, Q, M, A, B> {
         }
     }
 
+    /// The last share, where the step left it.
+    pub fn last(self) -> LastShare<R, F, Q, M, A, B>
+        requires last { (self.maybe.there ≡ false) × (self.maybe.last ≡ true) }
+        ensures { (result.block.id ≡ self.maybe.id) × (result.block.key ≡ self.maybe.key) × (result.block.value ≡ self.maybe.value) }
+    {
+        let MaybeShare { maybe } = self;
+        LastShare {
+            block: maybe.last(),
+        }
+    }
+
     /// There is none: the party may note what it does next, and no more.
     pub fn none(self) -> Ledger<R, F, Q, M, A, B>
         requires there { self.maybe.there ≡ false }
+        requires last { self.maybe.last ≡ false }
         ensures { result.ledger.id ≡ self.maybe.id }
     {
         let MaybeShare { maybe } = self;

@@ -1,12 +1,12 @@
 //! The steps on the word: loads and fetches, which a call makes whatever word it finds, and the exchange of one try. Beside them a part of a party's view gets a party of its own, which is no step.
-ghost use Rattle.std.specs.Prelude.{◌≡◌, ◌==◌, ◌+◌, ◌-◌, ◌%◌, ◌^◌, [], bit_and, bit_or, not};
+ghost use Rattle.std.specs.Prelude.{◌≡◌, ◌==◌, ◌+◌, ◌-◌, ◌%◌, ◌^◌, [], bit_and, bit_or, false, not};
 ghost use mathlib.Core.Option.{none};
 ghost use prog.Atomic.{either};
 ghost use Rattle.atomic_table.specs.Table.{step};
 ghost use Rattle.task_steps.specs.Steps.{Makes};
 ghost use Rattle.task_steps.specs.Knows.{Knows};
 ghost use Rattle.task_cell.specs.Calls.{BringsShare, EndsShare, KeepsShares, MayWrite, MayMake, MayGiveUp, MaySplit, deeds};
-ghost use Rattle.task_cell.specs.Belongs.{IsOf, Leaves, limit_in, values_in};
+ghost use Rattle.task_cell.specs.Belongs.{IsOf, Leaves, LeavesBy, limit_in, values_in};
 
 use super::{MaybeShare, Party, Share};
 use atomic_table::Split;
@@ -58,24 +58,13 @@ impl<R: Drop, F: Yields, Q: Drop, M: Drop, A: Drop, B: Allocator + Copy> Share<R
     ) -> (u64, MaybeShare<R, F, Q, M, A, B>)
         requires cell { seat.old.block ≡ self.block.id }
         requires allowed { MayWrite (values_in self) (limit_in self) seat.old.id seat.old.me (λ n. either (n == old) new n) (P.then self.block.key (step 2 0 old new none) seat.old.me) }
-        requires shares { EndsShare (values_in self) (limit_in self) seat.old.id seat.old.me (λ n. either (n == old) new n) (P.counts (step 2 0 old new none)) }
+        requires shares { EndsShare (values_in self) (limit_in self) seat.old.id seat.old.me (λ n. either (n == old) new n) (P.counts (step 2 0 old new none)) (P.lasts (step 2 0 old new none)) }
         ensures seat { (seat.new.block ≡ seat.old.block) × (seat.new.id ≡ seat.old.id) × P.then self.block.key (step 2 0 old new none) seat.old.me result.0 seat.new.me }
-        ensures share { Leaves self result.1 (not (P.counts (step 2 0 old new none) result.0)) }
+        ensures share { LeavesBy self result.1 (not (P.counts (step 2 0 old new none) result.0)) (P.lasts (step 2 0 old new none) result.0) }
     {
         let Share { block } = self;
         let (found, maybe) = block.part_exchange::<P>(seat, old, new);
         (found, MaybeShare { maybe })
-    }
-
-    // Makes a step by a write of this number: the word that it found.
-    pub(crate) fn swap<S: Script>(&self, party: &mut Party<F, Kept<F>, A>, new: u64) -> Word
-        requires cell { IsOf self.now party.old }
-        requires allowed { MayMake (values_in self.now) (limit_in self.now) S.acts (λ _. new) party.old }
-        ensures cell { party.new.seat.block ≡ party.old.seat.block }
-        ensures made { Makes (values_in self.now) (S.acts result) result party.old.seat.me party.new.seat.me }
-        ensures knows { Knows (deeds party.old) result }
-    {
-        Word::from_bits(self.block.swap::<Knowing<S>>(&mut party.seat, new))
     }
 
     // Makes a step by a fetch that keeps these bits alone: the word that it found.
@@ -116,7 +105,7 @@ impl<R: Drop, F: Yields, Q: Drop, M: Drop, A: Drop, B: Allocator + Copy> Share<R
         Party { seat }
     }
 
-    // Makes a step that gives a handle up, by a fetch that takes `k` off, 256 for a reference and 16 for the Task: the word that it found, and the share, where that was the last one.
+    // Makes a step that gives a handle up, by a fetch that takes `k` off, 256 for a reference and 16 for the Task: the word that it found, and the last share, where that was the last one.
     pub(crate) fn give<S: Giving>(
         self,
         party: &mut Party<F, Kept<F>, A>,
@@ -127,7 +116,7 @@ impl<R: Drop, F: Yields, Q: Drop, M: Drop, A: Drop, B: Allocator + Copy> Share<R
         ensures cell { party.new.seat.block ≡ party.old.seat.block }
         ensures made { Makes (values_in self) (S.acts result.0) result.0 party.old.seat.me party.new.seat.me }
         ensures knows { Knows (deeds party.old) result.0 }
-        ensures share { Leaves self result.1 (not (S.gives result.0)) }
+        ensures share { LeavesBy self result.1 false (not (S.gives result.0)) }
     {
         let Share { block } = self;
         let (found, maybe) = block.part::<Knowing<S>>(&mut party.seat, k);

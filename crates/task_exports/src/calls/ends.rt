@@ -1,7 +1,7 @@
 //! How a call ends.
 ghost use Rattle.std.specs.Prelude.{◌≡◌, [], ℕ, Option, IfSome, is_some, true};
 ghost use Rattle.task_cell.specs.Calls.{Did, Stands, StandsWith};
-ghost use Rattle.task_exports.specs.Answers.{IsFull, empties};
+ghost use Rattle.task_exports.specs.Answers.{HasLast, empties};
 ghost use Rattle.task_exports.specs.Hands.{IsGone};
 ghost use Rattle.task_laws.specs.declared.positions.Answer.{Answer};
 ghost use Rattle.task_laws.specs.declared.positions.Position.TheVariants.{Emptier};
@@ -42,7 +42,7 @@ pub(crate) fn empty<A: Wake, C: Caller<A>>(
     took: bool,
     caller: &mut C,
 ) -> Option<Record>
-    requires handle { IsFull h.old }
+    requires handle { HasLast h.old }
     requires party { (awaiter : Option ℕ) × (answer : Answer) × (y : _) × StandsWith (Emptier awaiter answer) (awaiter_first y []) h.old.hand.party × (is_some awaiter ≡ took) }
     ensures { IfSome result (λ ended. Did (empties took) as_ended h.old.hand.party ended.party) }
 {

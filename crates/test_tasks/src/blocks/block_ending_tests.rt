@@ -1,11 +1,11 @@
-//! Tests of a block that begins with two shares: an exchange ends one of them, and after the other one has closed the block the seat still notes what it knows.
-ghost use Rattle.std.specs.Prelude.{◌≡◌, ◌==◌};
+//! Tests of a block that begins with two shares: an exchange ends one of them, a fetch the other. The last share is a share once more, and after it has closed the block the seat still notes what it knows.
+ghost use Rattle.std.specs.Prelude.{◌≡◌, ◌==◌, true, false};
 ghost use Rattle.test_tasks.specs.Stages.{Staged};
 
 use counted_block::{Bare, BlockPlay, BlockRule, CountPlay, Inner, Place, Share};
 use linked_list_allocator::LocalHeap;
 
-/// The seat knows the stage: 0 with two shares, 1 with one, and 2 once it has noted the end.
+/// The seat knows the stage: 0 with two shares, 1 with one, 2 with none, and 3 once it has noted the end.
 struct Stages;
 
 impl BlockRule<u8, u16, u64, ()> for Stages {
@@ -25,13 +25,42 @@ impl BlockPlay<Place<u8, u16>, u64, ()> for Halve {
 
 impl CountPlay<Place<u8, u16>, u64, ()> for Halve {
     ghost counts = { λ _ n. n == 2 };
+
+    ghost lasts = { λ _ _. false };
+}
+
+/// The other one ends.
+struct EndOther;
+
+impl BlockPlay<Place<u8, u16>, u64, ()> for EndOther {
+    ghost then = { λ _ _ _ n after. (n ≡ 1) × (after.0 ≡ 2) };
+}
+
+impl CountPlay<Place<u8, u16>, u64, ()> for EndOther {
+    ghost counts = { λ _ _. true };
+
+    ghost lasts = { λ _ _. true };
+}
+
+/// The last share looks.
+struct Look;
+
+impl BlockPlay<Place<u8, u16>, u64, ()> for Look {
+    ghost then = { λ _ _ _ n after. (n ≡ 0) × (after.0 ≡ 2) };
+}
+
+/// It is a share again.
+struct Revive;
+
+impl BlockPlay<Place<u8, u16>, u64, ()> for Revive {
+    ghost then = { λ _ _ _ n after. (n ≡ 0) × (after.0 ≡ 1) };
 }
 
 /// The seat notes that all is over.
 struct NoteEnd;
 
 impl BlockPlay<Place<u8, u16>, u64, ()> for NoteEnd {
-    ghost then = { λ _ _ _ _ after. after.0 ≡ 2 };
+    ghost then = { λ _ _ _ _ after. after.0 ≡ 3 };
 }
 
 // The word that the exchange found, the value and the second slot that the block had, and whether its memory was given back before the note.
@@ -50,7 +79,12 @@ fn halve_close_and_note(heap: &LocalHeap) -> Option<(u64, u64, u16, bool)> {
     );
     let (found, maybe) = share.part_exchange::<Halve>(&mut seat, 2, 1);
     let ledger = maybe.none();
-    let bare = other.close(&mut seat)?;
+    let (_, maybe) = other.part::<EndOther>(&mut seat, 1);
+    let last = maybe.last();
+    last.load::<Look>(&mut seat);
+    let (_, again) = last.revive::<Revive>(&mut seat, 1);
+    let (_, maybe) = again.part::<EndOther>(&mut seat, 1);
+    let bare = maybe.last().close(&mut seat)?;
     let inner = Box::into_inner(bare.into_box(heap));
     let is_freed = heap.used() == 0;
     ledger.note::<NoteEnd>(&mut seat);

@@ -1,24 +1,23 @@
 // What the owners of a pointer know of its block. The word is how many owners there are.
-ghost use Rattle.std.specs.Prelude.{false};
-ghost use Rattle.test_tasks.specs.Counting.{view, Agrees, shares_out, Entered, Gained, gains_share, Parted, parts_share};
+ghost use Rattle.std.specs.Prelude.{◌==◌, true, false};
+ghost use Rattle.test_tasks.specs.Counting.{view, Agrees, Entered, Gained, gains_share, Parted};
 
 use counted_block::{BlockPlay, BlockRule, CountPlay, Place};
 
-/// What one owner knows: how many owners it stands for, which is 0 or 1, and whether it was the last.
+/// What one owner knows: how many owners it stands for, which is 0 or 1.
 pub struct View {
     pub owners: u64,
-    pub last: bool,
 }
 
-/// The word is the sum of the owners, and is 0 once one of them was the last.
+/// The word is the sum of the owners, each of which has a share.
 pub struct Law;
 
 impl BlockRule<(), (), View, ()> for Law {
     ghost holds = { λ _ s. Agrees s };
 
-    ghost first = { λ _. view 1 false };
+    ghost first = { λ _. view 1 };
 
-    ghost out = { shares_out };
+    ghost out = { λ n. n };
 }
 
 /// A new seat comes, which stands for no owner yet.
@@ -37,9 +36,11 @@ impl BlockPlay<Place<(), ()>, View, ()> for Gain {
 
 impl CountPlay<Place<(), ()>, View, ()> for Gain {
     ghost counts = { gains_share };
+
+    ghost lasts = { λ _ _. false };
 }
 
-/// One owner less. The last one keeps its share, to close the block.
+/// One owner less.
 pub(crate) struct Part;
 
 impl BlockPlay<Place<(), ()>, View, ()> for Part {
@@ -47,5 +48,7 @@ impl BlockPlay<Place<(), ()>, View, ()> for Part {
 }
 
 impl CountPlay<Place<(), ()>, View, ()> for Part {
-    ghost counts = { parts_share };
+    ghost counts = { λ _ _. true };
+
+    ghost lasts = { λ _ n. n == 1 };
 }

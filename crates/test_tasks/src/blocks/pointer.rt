@@ -1,5 +1,5 @@
 // One owner of a value that several share.
-ghost use Rattle.std.specs.Prelude.{◌≡◌, ◌<◌, false, IfOk, IfSome};
+ghost use Rattle.std.specs.Prelude.{◌≡◌, ◌<◌, IfOk, IfSome};
 ghost use Rattle.test_tasks.specs.Counting.{view};
 
 use crate::blocks::keeper::Keeper;
@@ -18,7 +18,7 @@ pub struct Pointer<T, A: Allocator + Copy> {
     share: Share<(), (), View, (), Law, T, A>,
     seat: Seat<(), (), View>,
     alloc: A,
-    ghost seated: { (seat.block ≡ share.id) × (seat.me.0 ≡ view 1 false) × (share.heap ≡ alloc) },
+    ghost seated: { (seat.block ≡ share.id) × (seat.me.0 ≡ view 1) × (share.heap ≡ alloc) },
 }
 
 impl<T, A: Allocator + Copy> Pointer<T, A> {
@@ -52,7 +52,7 @@ impl<T, A: Allocator + Copy> Pointer<T, A> {
 
     // One owner more if the word is `old`, else the word.
     fn gain_from(&self, old: u64) -> Result<Pointer<T, A>, u64>
-        requires { (0 < old) × (old < 4611686018427387903) }
+        requires { old < 4611686018427387903 }
         ensures { IfOk result (λ p. p.share.value ≡ self.now.share.value) }
     {
         let (_, mut seat) = self.share.load_new_seat::<Enter>();
@@ -75,7 +75,7 @@ impl<T, A: Allocator + Copy> Pointer<T, A> {
     {
         let mut old = self.share.peek();
         for _ in 0..TRIES {
-            if old == 0 || old >= MOST {
+            if old >= MOST {
                 return None;
             }
             match self.gain_from(old) {
@@ -111,7 +111,7 @@ impl<T, A: Allocator + Copy> Pointer<T, A> {
             maybe.none();
             return None;
         }
-        let bare = maybe.share().close(&mut seat)?;
+        let bare = maybe.last().close(&mut seat)?;
         let inner = Box::into_inner(bare.into_box(alloc));
         Some(inner.value)
     }

@@ -1,19 +1,19 @@
 //! Tests of plain access to the slots: a thread takes both, reads and writes them, and closes the block while another thread releases a hold.
-ghost use Rattle.std.specs.Prelude.{◌≡◌, ℕ, true, false, [], ◌∷◌};
+ghost use Rattle.std.specs.Prelude.{◌≡◌, ℕ, true, [], ◌∷◌};
 ghost use Rattle.counted_block.specs.declared.place.Place.TheVariants.{First, Second};
 ghost use Rattle.test_tasks.specs.Stages.{Taken};
 
-use counted_block::{Bare, BlockPlay, BlockRule, Hold, Inner, Place, Seat, Share};
+use counted_block::{Bare, BlockPlay, BlockRule, CountPlay, Hold, Inner, Place, Seat, Share};
 use std::alloc::Global;
 use std::thread::{self, Threads};
 
-/// The rule of one share and one seat, which knows whether it has the slots.
+/// The rule of one share and one seat, which knows the stage: 0 before it takes the slots, 1 with them, and 2 once it has given the share up.
 struct OneSeat;
 
-impl BlockRule<u8, u16, bool, ()> for OneSeat {
+impl BlockRule<u8, u16, u64, ()> for OneSeat {
     ghost holds = { λ _ s. Taken s };
 
-    ghost first = { λ _. false };
+    ghost first = { λ _. 0 };
 
     ghost out = { λ n. n };
 }
@@ -21,13 +21,26 @@ impl BlockRule<u8, u16, bool, ()> for OneSeat {
 /// The seat takes both slots, the second one last.
 struct Take;
 
-impl BlockPlay<Place<u8, u16>, bool, ()> for Take {
-    ghost then = { λ _ _ _ _ after. (x : ℕ) × (y : ℕ) × (after ≡ (true, (1, Second y) ∷ (0, First x) ∷ [])) };
+impl BlockPlay<Place<u8, u16>, u64, ()> for Take {
+    ghost then = { λ _ _ _ _ after. (x : ℕ) × (y : ℕ) × (after ≡ (1, (1, Second y) ∷ (0, First x) ∷ [])) };
 }
 
-type OneShare = Share<u8, u16, bool, (), OneSeat, (), Global>;
+/// The share is given up.
+struct Part;
 
-type OneHold = Hold<u8, u16, bool, (), OneSeat, (), Global>;
+impl BlockPlay<Place<u8, u16>, u64, ()> for Part {
+    ghost then = { λ _ _ before n after. (n ≡ 1) × (after ≡ (2, before.1)) };
+}
+
+impl CountPlay<Place<u8, u16>, u64, ()> for Part {
+    ghost counts = { λ _ _. true };
+
+    ghost lasts = { λ _ _. true };
+}
+
+type OneShare = Share<u8, u16, u64, (), OneSeat, (), Global>;
+
+type OneHold = Hold<u8, u16, u64, (), OneSeat, (), Global>;
 
 // The slots of a block that has ended.
 fn slots_of(alloc: Global, bare: Bare<Inner<u8, u16, ()>, Global>) -> (u8, u16)
@@ -40,9 +53,9 @@ fn slots_of(alloc: Global, bare: Bare<Inner<u8, u16, ()>, Global>) -> (u8, u16)
 /// A share and its seat, which has no slot yet.
 struct Writer {
     share: OneShare,
-    seat: Seat<u8, u16, bool>,
+    seat: Seat<u8, u16, u64>,
     alloc: Global,
-    ghost seated: { (share.heap ≡ alloc) × (seat.block ≡ share.id) × (seat.id ≡ 0) × (seat.me ≡ (false, [])) },
+    ghost seated: { (share.heap ≡ alloc) × (seat.block ≡ share.id) × (seat.id ≡ 0) × (seat.me ≡ (0, [])) },
 }
 
 impl Writer {
@@ -59,7 +72,8 @@ impl Writer {
         let was = share.swap_first(&mut seat, 7);
         *seat.first_mut(&share) += 1;
         let left = share.swap_first(&mut seat, 9);
-        let slots = match share.close(&mut seat) {
+        let (_, maybe) = share.part::<Part>(&mut seat, 1);
+        let slots = match maybe.last().close(&mut seat) {
             Some(bare) => Some(slots_of(alloc, bare)),
             None => None,
         };

@@ -13,7 +13,7 @@ note_woken-requires-clause-party c = let s = c.requires.party in let i = emptied
 
 pub returns-then-took : goal.returns-then-took
 returns-then-took c = let s = c.requires.party in
-    (c.gone-gone.ensures.is_there, subst (λ b. Did (empties b) as_ended c.args.hand.party c.end.new.party) (sym c.if-took.true) (empties_wakes s.0 s.1 _ _ _ _ (s.4 ∙ c.if-took.true) (c.empty-ledger.ensures.path s.0 s.1 s.2 s.3) c.note_woken.ensures c.end.ensures))
+    (c.gone-gone.ensures, subst (λ b. Did (empties b) as_ended c.args.hand.party c.end.new.party) (sym c.if-took.true) (empties_wakes s.0 s.1 _ _ _ _ (s.4 ∙ c.if-took.true) (c.empty-ledger.ensures.path s.0 s.1 s.2 s.3) c.note_woken.ensures c.end.ensures))
 
 pub end-requires-clause-party : goal.end-requires-clause-party
 end-requires-clause-party c = let s = c.requires.party in let i = emptied_hand s.0 s.1 _ _ (s.4 ∙ c.if-took.true) (c.empty-ledger.ensures.path s.0 s.1 s.2 s.3) in (Ran false, Ended, stands _ _ _ _ _ (woken_at OfRun i.0 _ _ i.1 c.note_woken.ensures))
@@ -23,4 +23,4 @@ end-requires-2-clause-party c = let s = c.requires.party in (s.1, Ended, emptied
 
 pub returns : goal.returns
 returns c = let s = c.requires.party in
-    (c.gone-gone.ensures.is_there, subst (λ b. Did (empties b) as_ended c.args.hand.party c.end-2.new.party) (sym c.if-took.false) (empties_none s.0 s.1 _ _ _ (s.4 ∙ c.if-took.false) (c.empty-ledger.ensures.path s.0 s.1 s.2 s.3) c.end-2.ensures))
+    (c.gone-gone.ensures, subst (λ b. Did (empties b) as_ended c.args.hand.party c.end-2.new.party) (sym c.if-took.false) (empties_none s.0 s.1 _ _ _ (s.4 ∙ c.if-took.false) (c.empty-ledger.ensures.path s.0 s.1 s.2 s.3) c.end-2.ensures))

@@ -21,7 +21,7 @@ none_spec 𝓤 𝓛 𝓜 𝓡 wired S₀ W₀ V₀ K₀ Y₀ T₀ A₀ _ _ _ _ _
     (λ κs. ((λ w. ptr_and_marker w.at ∷ []), tt)) (λ κs. ((λ w vs so. pair_told w.at vs so.0), tt)) (λ κs qs bounds a gh are. let s : MaybeRow.Denot = a.0 in let p : Ptr = s.at in
     let z : BlockId = s.id in let start : (walk_of 𝓛 promise staying claims).Ghost = ((κs, qs, bounds, a, (ptr_and_marker p ∷ [], tt)), gh) in let returned : Val → SProp 𝓤 =
     (walk_of 𝓛 promise staying claims).post start in qed 𝓛 ((raw (alive 𝓛 promise.signature κs qs) ⊛ ‵ (owns (types_at promise.signature.params κs) a start.0.4)) ∷
-    raw (fact 𝓤 _) ∷ raw (fact 𝓤 _) ∷ raw (fact 𝓤 _) ∷ raw (fact 𝓤 _) ∷ raw (fact 𝓤 _) ∷ raw (fact 𝓤 _) ∷ raw (fact 𝓤 _) ∷ given (s.there ≡ false) (‵ ftrue) ∷
+    raw (fact 𝓤 _) ∷ raw (fact 𝓤 _) ∷ raw (fact 𝓤 _) ∷ raw (fact 𝓤 _) ∷ raw (fact 𝓤 _) ∷ raw (fact 𝓤 _) ∷ raw (fact 𝓤 _) ∷ given ((s.there ≡ false) × (s.last ≡ false)) (‵ ftrue) ∷
     []) ∵ keep ! (8 ∷ 0 ∷ []) $ learn ! (λ is. drop ! $ split ! $ move ! (1 ∷ []) $ fsplit ! $ fsplit ! $ keep ! (1 ∷ 3 ∷ []) $ fsplit ! $ fpick ! (λ at. drop ! $ fsplit3 ! $
     let inb = in_place p z at in
     -- [the parts, of which there are none; what is kept; the value; the tokens]

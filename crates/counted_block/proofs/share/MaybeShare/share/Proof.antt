@@ -24,7 +24,7 @@ share_spec 𝓤 𝓛 𝓜 𝓡 wired S₀ W₀ V₀ K₀ Y₀ T₀ A₀ _ _ _ _ 
     (walk_of 𝓛 promise staying claims).post start in qed 𝓛 ((raw (alive 𝓛 promise.signature κs qs) ⊛ ‵ (owns (types_at promise.signature.params κs) a start.0.4)) ∷
     raw (fact 𝓤 _) ∷ raw (fact 𝓤 _) ∷ raw (fact 𝓤 _) ∷ raw (fact 𝓤 _) ∷ raw (fact 𝓤 _) ∷ raw (fact 𝓤 _) ∷ raw (fact 𝓤 _) ∷ given (s.there ≡ true) (‵ ftrue) ∷
     []) ∵ keep ! (8 ∷ 0 ∷ []) $ learn ! (λ is. drop ! $ split ! $ move ! (1 ∷ []) $ fsplit ! $ fsplit ! $ keep ! (1 ∷ 3 ∷ []) $ fsplit ! $ fpick ! (λ at. drop ! $ fsplit3 ! $
-    let inb = in_place p z at in rewrite ! 0 (λ (b : Bool). ‵ (parts_if b z)) is refl $ fjoin3 ! $ nothing ! $ fpack ! (p ≡ place z) (λ _. ftrue) at $ fjoin ! $
+    let inb = in_place p z at in rewrite ! 0 (λ (b : Bool). ‵ (parts_if b s.last z)) is refl $ fjoin3 ! $ nothing ! $ fpack ! (p ≡ place z) (λ _. ftrue) at $ fjoin ! $
     enter ! machine.C machine.Λ routine (ptr_and_marker p ∷ []) returned $ alloc_all ! (λ l. pass_all ! refl (pair_typed p inb, tt) $
     sets ! (of_opd ! (get_in ! (fld ! refl (stop !)) (sub ! 0 refl (whole !)))) refl (ptr_typed p inb) $ sets ! (agg ! (no_more !)) refl (tt, tt) $
     sets ! (agg ! (and_then ! (get ! refl) (and_then ! (get ! refl) (no_more !)))) refl (pair_typed p inb) $ use0 𝓛 (‵ (PairData.own_val (p, (tt, tt)) (ptr_and_marker p ∷ []))) (pair_made 𝓛

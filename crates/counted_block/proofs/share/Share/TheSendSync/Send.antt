@@ -3,12 +3,13 @@ use denote.Param.Send.{IsSend, IsSync, Frees}
 use Rattle.std.specs.declared.alloc.Allocator as Alloc
 use Rattle.counted_block.specs.declared.rule.BlockRule.{Ghosts}
 use Rattle.counted_block.specs.contracts.share.Share.{the_row}
-use Rattle.counted_block.proofs.Sent.{share_keyless}
+use Rattle.counted_block.specs.Blocks.{is_one, of_shares}
+use Rattle.counted_block.proofs.Sent.{owner_keyless}
 
 pub send : (S W V K P T A : RattleType) (g : Ghosts P.Denot S.Denot W.Denot V.Denot K.Denot) (h : Alloc.Ghosts A.Denot) → IsSend S → IsSend W → IsSend T → IsSend A → IsSync T → IsSync A
     → Frees h h.dealloc_token → IsSend (the_row S W V K P T A g h)
 send S W V K P T A g h ss sw s sa y ya f =
     record {
-      owned = λ d vs. ((λ vss. (tt, (tt, ((λ uss. (tt, tt)), tt)))), share_keyless S W T A h f ss sw s y V.coded.code (g.holds d.key) g.out d.heap d.id d.value d.at);
+      owned = λ d vs. ((λ vss. (tt, (tt, ((λ uss. (tt, tt)), tt)))), owner_keyless S W T A h f ss sw s y V.coded.code (g.holds d.key) g.out d.heap d.id d.value d.at is_one of_shares);
       leaving = λ k w vs. tt;
     }

@@ -1,12 +1,12 @@
 -- `begin` lends the value and the slots, and makes one share or two, and a seat.
-use Rattle.counted_block.proofs.Names.{◌≡◌, ℕ, List, [], ◌∷◌, ◌++◌, sym, refl, ap, named, dcons, dnil, Val, vptr, vstruct, vcons, vnil, of_list, inst_fn, SProp, emp, Lft, Fml, feq}
-use Rattle.counted_block.proofs.Names.{ftrue, fsep, flft, sem, ‵, raw, ◌⊛◌, given, some, later, await, ◌$◌, ◌∵◌, !, qed, by, move, keep, drop, split, split3, join, fsplit, fjoin}
-use Rattle.counted_block.proofs.Names.{fjoin3, fpack, learn, use0, use1, rewrite, feq_i, stop, fld, of_opd, no_more, and_then, returns, enter, alloc_all, pass_all, free_all, look_at, get, get_in}
-use Rattle.counted_block.proofs.Names.{sets, is, agg, sub, whole, tables, fact, fact_i, yes, no, group, RattleType, Valss, owns, types_at, plain, Ptr, block_ptr, ptr_val, nothing, heard, param, eqb}
+use Rattle.counted_block.proofs.Names.{◌≡◌, ℕ, List, [], ◌∷◌, ◌++◌, sym, refl, ap, named, dcons, dnil, Val, vptr, vstruct, vcons, vnil, of_list, inst_fn, SProp, emp, Lft, Fml, feq, ftrue}
+use Rattle.counted_block.proofs.Names.{fsep, flft, sem, ‵, raw, ◌⊛◌, given, some, later, await, ◌$◌, ◌∵◌, !, qed, by, move, keep, drop, split, split3, join, fsplit, fjoin, fjoin3, fpack}
+use Rattle.counted_block.proofs.Names.{learn, use0, use1, rewrite, feq_i, stop, fld, of_opd, no_more, and_then, returns, enter, alloc_all, pass_all, free_all, look_at, get, get_in, sets, is}
+use Rattle.counted_block.proofs.Names.{agg, sub, whole, tables, fact, fact_i, yes, no, group, RattleType, Valss, owns, types_at, plain, Ptr, block_ptr, ptr_val, nothing, heard, param, eqb}
 use Rattle.counted_block.proofs.Names.{bounded, RefOf, shr_vals, shr_Tells, Stays, stay_dropped, walk_of, Goes-dropped, proved, leaves, fst∗, never, ◌⊑◌, pick, lone, param_laws, null_ptr}
-use Rattle.counted_block.proofs.Names.{in_a_block, ◌+ₚ◌, contraction, Lends-first, Lends-lies, lent_at_shr_laws, box_owns, opening, First, Second, at_value, BlockId, life, place, parts, rebox}
-use Rattle.counted_block.proofs.Names.{parts_if, seat_owns, words_in, value_there, slots_there, content, looked_at, kept_of, unnamed, begun, unboxes, ptr_and_marker, pair_typed, marker_val, Types}
-use Rattle.counted_block.proofs.Names.{kept_twice, seven, Bool, ◌<◌, first_counts, PairData, MarkerData, pair_told, pair_made, marker_made}
+use Rattle.counted_block.proofs.Names.{in_a_block, ◌+ₚ◌, contraction, Lends-first, Lends-lies, lent_at_shr_laws, box_owns, opening, First, Second, at_value, BlockId, life, place, parts}
+use Rattle.counted_block.proofs.Names.{rebox, parts_if, seat_owns, words_in, value_there, slots_there, content, looked_at, kept_of, unnamed, begun, unboxes, ptr_and_marker, pair_typed}
+use Rattle.counted_block.proofs.Names.{marker_val, Types, kept_twice, seven, Bool, ◌<◌, first_counts, PairData, MarkerData, pair_told, pair_made, marker_made, false}
 use mir.Raw.{raw as bare_ty}
 use Rattle.counted_block.specs.contracts.bare.Bare as bare
 use Rattle.counted_block.specs.contracts.inner.Inner as inner
@@ -45,7 +45,7 @@ begin_spec 𝓤 𝓛 𝓜 𝓡 wired S₀ W₀ V₀ K₀ Y₀ T₀ A₀ LS LW _ 
     move ! (3 ∷ []) $ split ! $ move ! (1 ∷ []) $ split ! $ move ! (1 ∷ []) $ split ! $ move ! (1 ∷ []) $ split ! $ move ! (1 ∷ []) $ split ! $ move ! (1 ∷ []) $ split ! $
     move ! (1 ∷ []) $ split ! $
     -- [the value's token; the rest of the tokens, backwards; the words; the slots; the content]
-    move ! (8 ∷ 9 ∷ 10 ∷ 0 ∷ []) $ group ! 4 $ use1 𝓛 (later (some (λ (z : BlockId). given (place z ≡ block_ptr b o) (‵ (parts z) ⊛ ‵ (parts_if y z) ⊛
+    move ! (8 ∷ 9 ∷ 10 ∷ 0 ∷ []) $ group ! 4 $ use1 𝓛 (later (some (λ (z : BlockId). given (place z ≡ block_ptr b o) (‵ (parts z) ⊛ ‵ (parts_if y false z) ⊛
     ‵ (kept_of S W R V.coded.code holds g.out k z x) ⊛ ‵ (looked_at S W R k z x (life z)) ⊛ ‵ (seat_owns S W z V.coded.code 0 (v, [])))) ⊛ ‵ (flft κ qs.1.1.1.1.1.1.0))) (begun 𝓛 S W
     R V.coded holds g.out k x b o y n m v (first_counts (g.out n) y refl few.0 few.1) kept R.lives (Lends-first 𝓛 (value_there S W R k z₀ x) (rebox S W R k z₀ x) (looked_at S W R k z₀ x)
     R.lives (Lends-lies 𝓛 R R.lives (place z₀ +ₚ at_value S W R) x (LR.shares 𝓛 x))) κ qs.1.1.1.1.1.1.0 leT) $ enter ! machine.C machine.Λ routine (ptr_and_marker p₀ ∷ about_at ∷
@@ -66,12 +66,12 @@ begin_spec 𝓤 𝓛 𝓜 𝓡 wired S₀ W₀ V₀ K₀ Y₀ T₀ A₀ LS LW _ 
     use0 𝓛 (‵ (PairData.own_val (block_ptr b o, (tt, tt)) (ptr_and_marker (block_ptr b o) ∷ []))) (pair_made 𝓛 (block_ptr b o)) $ fjoin ! $ move ! (3 ∷ []) $
     use0 𝓛 (‵ (MarkerData.own_val (tt, tt) (marker_val ∷ []))) (marker_made 𝓛) $ fjoin ! $ nothing ! $ move ! (1 ∷ 0 ∷ []) $ fjoin ! $ move ! (2 ∷ 1 ∷ 0 ∷ []) $ fjoin3 ! $
     let q : Val = ptr_and_marker (block_ptr b o) in let sh : OwnRow.Denot = record { at = block_ptr b o; marker = record {}; id = z; key = key; value = x; heap = s.heap } in let mh : MaybeRow.Denot =
-    record { at = block_ptr b o; marker = record {}; id = z; key = key; value = x; heap = s.heap; there = y } in
+    record { at = block_ptr b o; marker = record {}; id = z; key = key; value = x; heap = s.heap; there = y; last = false } in
     let st : SeatRow.Denot = record { marker = record {}; block = z; id = 0; me = (v, []) } in let u : Val = vstruct (vcons q (vcons q (vcons marker_val vnil))) in
     feq_i ! (List Val) (u ∷ []) (u ∷ []) refl $ fjoin ! $ fpack ! (Valss (OwnRow ∷ MaybeRow ∷ SeatRow ∷ [])) (λ uss. fsep (feq (List Val) (u ∷
     []) (vstruct (of_list (uss.0 ++ (uss.1.0 ++ (uss.1.1.0 ++ [])))) ∷ [])) (owns (OwnRow ∷ MaybeRow ∷ SeatRow ∷ []) (sh, (mh, (st, tt))) uss))
     (q ∷ [], (q ∷ [], (marker_val ∷ [], tt))) $ let A₁ : Type 0 = (key ≡ key) × (x ≡ x) × (s.heap ≡ s.heap) in let A₂ : Type 0 = (z ≡ z) × (key ≡ key) × (x ≡ x) ×
-    (s.heap ≡ s.heap) × (y ≡ y) in let A₃ : Type 0 = (z ≡ z) × (0 ≡ 0) × ((v, []) ≡ (v, [])) in use0 𝓛 (raw (fact 𝓤 A₃)) (fact_i 𝓤 A₃ (emp 𝓤) (refl, refl, refl)) $
-    use0 𝓛 (raw (fact 𝓤 A₂)) (fact_i 𝓤 A₂ (emp 𝓤) (refl, refl, refl, refl, refl)) $ join ! $ use0 𝓛 (raw (fact 𝓤 A₁)) (fact_i 𝓤 A₁ (emp 𝓤) (refl, refl, refl)) $
+    (s.heap ≡ s.heap) × (y ≡ y) × (false ≡ false) in let A₃ : Type 0 = (z ≡ z) × (0 ≡ 0) × ((v, []) ≡ (v, [])) in use0 𝓛 (raw (fact 𝓤 A₃)) (fact_i 𝓤 A₃ (emp 𝓤) (refl, refl, refl)) $
+    use0 𝓛 (raw (fact 𝓤 A₂)) (fact_i 𝓤 A₂ (emp 𝓤) (refl, refl, refl, refl, refl, refl)) $ join ! $ use0 𝓛 (raw (fact 𝓤 A₁)) (fact_i 𝓤 A₁ (emp 𝓤) (refl, refl, refl)) $
     join ! $ nothing ! $ nothing ! $ fjoin ! $ nothing ! $ fjoin ! $ returns ! (look_at ! 0 refl) $ free_all ! refl $ keep ! (3 ∷ 0 ∷ 2 ∷ 1 ∷ []) $
     by ! (leaves 𝓛 promise staying claims start u (sh, mh, st) (tt, (tt, tt)) (tt, (tt, tt))))))))))))

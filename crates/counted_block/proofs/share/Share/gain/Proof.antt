@@ -1,13 +1,13 @@
 -- `gain` is one compare-exchange, by which there may be one share more.
-use Rattle.counted_block.proofs.Names.{◌≡◌, ℕ, ◌+◌, ◌^◌, List, [], ◌∷◌, sym, refl, w64, named, dcons, dnil, Val, vint, vptr, vstruct, vcons, vnil, of_list, ◌++◌, feq, emp}
-use Rattle.counted_block.proofs.Names.{Valss, inst_fn, SProp, Lft, Fml, ftrue, fsep, flft, fhide, finv, ‵, raw, ◌⊛◌, given, mean, at_ret, ◌$◌, ◌∵◌, !, qed, by, move, keep, drop}
-use Rattle.counted_block.proofs.Names.{split, split3, join, fsplit, fsplit3, fjoin, fjoin3, fpick, fpack, learn, use0, use1, use3, via, rewrite, feq_i, flt_i, stop, hop, fld, addr, load, of_opd, Is}
-use Rattle.counted_block.proofs.Names.{no_more, and_then, first, blocks, exec, Calls-last, returns, enter, alloc_all, pass_all, free_all, look_at, get, through, sets, lands_last, env, agg, sub, yes}
-use Rattle.counted_block.proofs.Names.{whole, look_in, tables, fact, fact_i, RattleType, owns, types_at, plain, Ptr, block_ptr, nothing, peeks, looks, shuts, opens, closes, unhide, shows, cell_at}
-use Rattle.counted_block.proofs.Names.{hidden_shr, param, bounded, RefOf, shr_vals, shr_Tells, mut_vals, mut_Tells, shr_bor-open, obor_close, tokens_halve, Stays, stay_dropped, stay_ref, walk_of}
-use Rattle.counted_block.proofs.Names.{Goes-dropped, Goes-ref, after, proved, leaves, fm, found, finds, u64, uint_vals, uint_Tells, either, eqb, exchanges, Me, step, Allows, Place, BlockId, stay}
-use Rattle.counted_block.proofs.Names.{place, parts_if, seat_owns, block, More, content, kept_of, share_shown, tokens, ptr_and_marker, ShareData, share_opens, kept_shows, Types, eight, share_lent}
-use Rattle.counted_block.proofs.Names.{PairData, pair_at, pair_made}
+use Rattle.counted_block.proofs.Names.{◌≡◌, ℕ, ◌+◌, ◌^◌, List, [], ◌∷◌, sym, refl, w64, named, dcons, dnil, Val, vint, vptr, vstruct, vcons, vnil, of_list, ◌++◌, feq, emp, Valss, inst_fn}
+use Rattle.counted_block.proofs.Names.{SProp, Lft, Fml, ftrue, fsep, flft, fhide, finv, ‵, raw, ◌⊛◌, given, mean, at_ret, ◌$◌, ◌∵◌, !, qed, by, move, keep, drop, split, split3, join, fsplit}
+use Rattle.counted_block.proofs.Names.{fsplit3, fjoin, fjoin3, fpick, fpack, learn, use0, use1, use3, via, rewrite, feq_i, flt_i, stop, hop, fld, addr, load, of_opd, Is, no_more, and_then}
+use Rattle.counted_block.proofs.Names.{first, blocks, exec, Calls-last, returns, enter, alloc_all, pass_all, free_all, look_at, get, through, sets, lands_last, env, agg, sub, yes, whole}
+use Rattle.counted_block.proofs.Names.{look_in, tables, fact, fact_i, RattleType, owns, types_at, plain, Ptr, block_ptr, nothing, peeks, looks, shuts, opens, closes, unhide, shows, cell_at}
+use Rattle.counted_block.proofs.Names.{hidden_shr, param, bounded, RefOf, shr_vals, shr_Tells, mut_vals, mut_Tells, shr_bor-open, obor_close, Stays, stay_dropped, stay_ref, walk_of}
+use Rattle.counted_block.proofs.Names.{Goes-dropped, Goes-ref, after, proved, leaves, fm, found, finds, u64, uint_vals, uint_Tells, either, eqb, exchanges, Me, step, Allows, Place, BlockId}
+use Rattle.counted_block.proofs.Names.{place, parts_if, seat_owns, block, More, content, kept_of, share_shown, tokens, ptr_and_marker, ShareData, share_opens, kept_shows, Types, eight}
+use Rattle.counted_block.proofs.Names.{share_lent, PairData, pair_at, pair_made, halve, of_shares, ◌<◌, false}
 use mathlib.Core.Option as maybe
 use Rattle.counted_block.specs.contracts.share.Share as share
 use Rattle.counted_block.specs.contracts.share.MaybeShare as maybe_share
@@ -33,7 +33,7 @@ gain_spec 𝓤 𝓛 𝓜 𝓡 wired S₀ W₀ V₀ K₀ Y₀ T₀ A₀ M₀ _ _ 
     (#self at_types) routine (code.unfolded 𝓤 H 𝓜 𝓡 wired types d dh dd dm dm') (λ κs. (shr_vals, (mut_vals, (uint_vals w64, (uint_vals w64, tt)))))
     (λ κs. (shr_Tells (named 0) κs.0 OwnRow, (mut_Tells (named 1) κs.1.0 SeatRow, (uint_Tells w64, (uint_Tells w64, tt))))) (λ κs qs bounds a gh are. let self_block : ℕ = a.0.ref_ptr.0 in
     let self_offset : ℕ = a.0.ref_ptr.1 in let κ : Lft = κs.0 in let s : OwnRow.Denot = a.0.now in let p : Ptr = s.at in let x : R.Denot = s.value in let k = h.dealloc_token s.heap in
-    let z : BlockId = s.id in let β : Lft = stay z in let seat_block : ℕ = a.1.0.ref_ptr.0 in let seat_offset : ℕ = a.1.0.ref_ptr.1 in let t : SeatRow.Denot = a.1.0.now in let id : ℕ = t.id in
+    let z : BlockId = s.id in let seat_block : ℕ = a.1.0.ref_ptr.0 in let seat_offset : ℕ = a.1.0.ref_ptr.1 in let t : SeatRow.Denot = a.1.0.now in let id : ℕ = t.id in
     let v : Me (Place S.Denot W.Denot) V.Denot = t.me in let old : ℕ = a.1.1.0 in let new : ℕ = a.1.1.1.0 in let f : ℕ → ℕ = λ n. either (eqb n old) new n in
     let then : ℕ → Me (Place S.Denot W.Denot) V.Denot → Type 0 = m'.then s.key (step 2 0 old new maybe.none) v in let counts = m.counts (step 2 0 old new maybe.none) in
     let Beside : Fml = tokens 8 κs.1.1 qs.1.1 in let pb : ℕ = z.block in let e : ℕ = z.offset + 0 in let P : Fml = content S W R k z x in let holds = g.holds s.key in
@@ -55,14 +55,13 @@ gain_spec 𝓤 𝓛 𝓜 𝓡 wired S₀ W₀ V₀ K₀ Y₀ T₀ A₀ M₀ _ _ 
     rewrite ! 1 (λ (ws : List Val). ‵ (cell_at q D.mir ws self_block self_offset)) ev refl $ first ! $ blocks ! $
     sets ! (addr ! (through ! refl (fld ! refl (hop ! (look_in ! 1 (sub ! 0 refl (whole !))) (fld ! refl (stop !)))))) refl (tt, tt) $
     rewrite ! 1 (λ (ws : List Val). ‵ (cell_at q D.mir ws self_block self_offset)) (sym ev) refl $ move ! (1 ∷ 0 ∷ 2 ∷ []) $ shuts ! tt D q (p, (tt, tt)) vs self_block self_offset $
-    -- [the token; the fields; the tally's token, lent; the invariant; what is kept; the value; the seat, in two; its token; the others]
-    move ! (2 ∷ 0 ∷ []) $ shr_bor-open ! tt (tokens_halve 𝓛 β) (λ r. let out : ℕ → Fml = moving.after 𝓛 S W V.coded holds g.out P z id v f then allows (λ n. fsep (flft β r)
-    (parts_if (counts n) z)) in move ! (6 ∷ 7 ∷ 8 ∷ []) $ opens ! tt SeatRow seat_block seat_offset (λ bits. move ! (1 ∷ []) $ fsplit ! $
+    -- [the token; the fields; the grips, lent; the invariant; what is kept; the value; the seat, in two; its token; the others]
+    move ! (2 ∷ 0 ∷ []) $ shr_bor-open ! tt (halve 𝓛 z.grips of_shares) (λ r. let out : ℕ → Fml = moving.after 𝓛 S W V.coded holds g.out P z id v f then allows (moving.with_more 𝓛 S W V.coded holds g.out P z id v f then allows r counts) in move ! (6 ∷ 7 ∷ 8 ∷ []) $ opens ! tt SeatRow seat_block seat_offset (λ bits. move ! (1 ∷ []) $ fsplit ! $
     rewrite ! 1 (λ (w : BlockId). ‵ (seat_owns S W w V.coded.code id v)) same refl $ move ! (9 ∷ 7 ∷ 1 ∷ []) $ use3 𝓛 (raw (machine.C _ (vptr pb e ∷ vint w64 old ∷ vint w64 new ∷
     []) (λ u. mean 𝓛 (found out u)))) (via 𝓤 _ (moving.gains 𝓛 S W V.coded holds g.out P z id v f then allows r counts counted) (exchanges 𝓛 𝓜 𝓡 (code.calls-atomic_table::exchange
     𝓡.env wired) (block_ptr pb e) old new are.1.1.0.1 are.1.1.1.0.1 out)) $ Calls-last ! (fm 𝓛 𝓜 𝓡) (found out) (and_then ! (get ! refl) (and_then ! (get ! refl) (and_then ! (get ! refl)
     (no_more !)))) (λ u. finds ! out (λ n fits. lands_last ! refl (tt, record { fits = fits }) $ exec ! machine.C machine.Λ here (after 1 routine.body) (at_ret here returned) $
-    sets ! (of_opd ! (get ! refl)) refl (tt, record { fits = fits }) $ fsplit ! $ fsplit ! $ move ! (8 ∷ 0 ∷ []) $ obor_close ! tt $ drop ! $
+    sets ! (of_opd ! (get ! refl)) refl (tt, record { fits = fits }) $ fsplit ! $ fsplit ! $ fsplit ! $ fpick ! (λ live. drop ! $ move ! (8 ∷ 0 ∷ []) $ obor_close ! tt $ drop ! $
     -- [the token; the parts, if there are; where the seat goes; its fields, its cell and three more; the fields; what is kept; the value; the others]
     move ! (8 ∷ 0 ∷ []) $ looks ! tt D (share_opens S W V K Y R A g h 𝓛) (p, (tt, tt)) self_block self_offset (λ q₂ vs₂. move ! (1 ∷ []) $ peeks ! D (Is D) (shows 𝓛 D) (p, (tt, tt))
     vs₂ (λ is_so₂. let ev₂ = pair_at p z at vs₂ is_so₂ in rewrite ! 1 (λ (ws : List Val). ‵ (cell_at q₂ D.mir ws self_block self_offset)) ev₂ refl $
@@ -72,7 +71,7 @@ gain_spec 𝓤 𝓛 𝓜 𝓡 wired S₀ W₀ V₀ K₀ Y₀ T₀ A₀ M₀ _ _ 
     sets ! (of_opd ! (get ! refl)) refl (tt, (tt, (tt, tt))) $ sets ! (agg ! (and_then ! (get ! refl) (and_then ! (get ! refl) (no_more !)))) refl
     (tt, (record { fits = fits }, ((tt, (tt, tt)), tt))) $ move ! (2 ∷ 9 ∷ 10 ∷ []) $ fjoin3 ! $ nothing ! $ fpack ! (place z ≡ place z) (λ _. ftrue) refl $ fjoin ! $
     let u : Val = vstruct (vcons (vint w64 n) (vcons (ptr_and_marker (place z)) vnil)) in let mh : MaybeRow.Denot =
-    record { at = place z; marker = s.marker; id = z; key = s.key; value = x; heap = s.heap; there = counts n } in use0 𝓛 (‵ (PairData.own_val (place z, (tt, tt)) (ptr_and_marker (place z) ∷
+    record { at = place z; marker = s.marker; id = z; key = s.key; value = x; heap = s.heap; there = counts n; last = false } in use0 𝓛 (‵ (PairData.own_val (place z, (tt, tt)) (ptr_and_marker (place z) ∷
     []))) (pair_made 𝓛 (place z)) $ fjoin ! $ nothing ! $ flt_i ! n (2 ^ 64) fits $ feq_i ! (List Val) (vint w64 n ∷ []) (vint w64 n ∷ []) refl $ fjoin ! $ move ! (0 ∷ 2 ∷ 1 ∷ []) $
     fjoin3 ! $ feq_i ! (List Val) (u ∷ []) (u ∷ []) refl $ fjoin ! $ fpack ! (Valss (u64 ∷ MaybeRow ∷ [])) (λ uss. fsep (feq (List Val) (u ∷
     []) (vstruct (of_list (uss.0 ++ (uss.1.0 ++ []))) ∷ [])) (owns (u64 ∷ MaybeRow ∷ []) (n, (mh, tt)) uss)) (vint w64 n ∷ [], (ptr_and_marker (place z) ∷ [], tt)) $
@@ -80,7 +79,7 @@ gain_spec 𝓤 𝓛 𝓜 𝓡 wired S₀ W₀ V₀ K₀ Y₀ T₀ A₀ M₀ _ _ 
     move ! (3 ∷ []) $ fpick ! (λ v'. fsplit ! $ fpick ! (λ so. drop ! $ let t' : SeatRow.Denot = record { marker = t.marker; block = z; id = id; me = v' } in move ! (4 ∷ 0 ∷ []) $ fjoin ! $
     move ! (4 ∷ 0 ∷ 5 ∷ 6 ∷ 7 ∷ []) $ closes ! tt SeatRow t' bits seat_block seat_offset $ feq_i ! (List Val) (vptr seat_block seat_offset ∷ []) (vptr seat_block seat_offset ∷ []) refl $
     fjoin3 ! $ nothing ! $ nothing ! $ fjoin ! $ nothing ! $ fjoin ! $ move ! (1 ∷ 0 ∷ []) $ fjoin ! $ nothing ! $ fjoin ! $ move ! (1 ∷ 5 ∷ []) $ join ! $ move ! (3 ∷ 0 ∷ []) $ join ! $
-    let A₁ : Type 0 = (z ≡ t.block) × (id ≡ id) × then n v' in let A₂ : Type 0 = (z ≡ z) × (s.key ≡ s.key) × (x ≡ x) × (s.heap ≡ s.heap) × (counts n ≡ counts n) in
-    use0 𝓛 (raw (fact 𝓤 A₂)) (fact_i 𝓤 A₂ (emp 𝓤) (refl, refl, refl, refl, refl)) $ use0 𝓛 (raw (fact 𝓤 A₁)) (fact_i 𝓤 A₁ (emp 𝓤) (sym same, refl, so)) $ join ! $
+    let A₁ : Type 0 = (z ≡ t.block) × (id ≡ id) × then n v' in let A₂ : Type 0 = (z ≡ z) × (s.key ≡ s.key) × (x ≡ x) × (s.heap ≡ s.heap) × (counts n ≡ counts n) × (false ≡ false) in
+    use0 𝓛 (raw (fact 𝓤 (0 < g.out n))) (fact_i 𝓤 (0 < g.out n) (emp 𝓤) live) $ use0 𝓛 (raw (fact 𝓤 A₂)) (fact_i 𝓤 A₂ (emp 𝓤) (refl, refl, refl, refl, refl, refl)) $ join ! $ use0 𝓛 (raw (fact 𝓤 A₁)) (fact_i 𝓤 A₁ (emp 𝓤) (sym same, refl, so)) $ join ! $
     returns ! (look_at ! 0 refl) $ free_all ! refl $ keep ! (1 ∷ 2 ∷ 3 ∷ 0 ∷ []) $ by ! (leaves 𝓛 promise staying claims start u (n, mh) (tt, (t', (tt, (tt, tt))))
-    (tt, (tt, (tt, (tt, tt)))))))))))))))))))))
+    (tt, (tt, (tt, (tt, tt))))))))))))))))))))))

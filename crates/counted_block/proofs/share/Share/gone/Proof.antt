@@ -1,10 +1,10 @@
 -- `gone` keeps what there is without a share, and copies where it lies.
-use Rattle.counted_block.proofs.Names.{◌≡◌, ℕ, List, [], ◌∷◌, refl, sym, named, dcons, dnil, Val, vptr, inst_fn, SProp, emp, Lft, Fml, ftrue, flft, fhide, ‵, raw, ◌⊛◌, ◌$◌}
-use Rattle.counted_block.proofs.Names.{◌∵◌, !, qed, by, move, keep, drop, split, join, fsplit, fjoin, fjoin3, fpick, fpack, use0, use1, rewrite, stop, fld, load, of_opd, no_more, and_then, Is}
-use Rattle.counted_block.proofs.Names.{returns, enter, alloc_all, pass_all, free_all, look_at, get, through, sets, agg, sub, whole, look_in, tables, fact, fact_i, yes, RattleType, owns, types_at}
-use Rattle.counted_block.proofs.Names.{plain, Ptr, nothing, peeks, looks, shuts, unhide, shows, cell_at, hidden_shr, param, bounded, RefOf, shr_vals, shr_Tells, Stays, stay_dropped, walk_of, proved}
-use Rattle.counted_block.proofs.Names.{Goes-dropped, leaves, false, BlockId, stay, place, content, share_shown, tokens, ptr_and_marker, ShareData, share_opens, Types, seven, share_lent, PairData}
-use Rattle.counted_block.proofs.Names.{pair_at, pair_made}
+use Rattle.counted_block.proofs.Names.{◌≡◌, ℕ, List, [], ◌∷◌, refl, sym, named, dcons, dnil, Val, vptr, inst_fn, SProp, emp, Lft, Fml, ftrue, flft, fhide, ‵, raw, ◌⊛◌, ◌$◌, ◌∵◌, !, qed, by}
+use Rattle.counted_block.proofs.Names.{move, keep, drop, split, join, fsplit, fjoin, fjoin3, fpick, fpack, use0, use1, rewrite, stop, fld, load, of_opd, no_more, and_then, Is, returns}
+use Rattle.counted_block.proofs.Names.{enter, alloc_all, pass_all, free_all, look_at, get, through, sets, agg, sub, whole, look_in, tables, fact, fact_i, yes, RattleType, owns, types_at}
+use Rattle.counted_block.proofs.Names.{plain, Ptr, nothing, peeks, looks, shuts, unhide, shows, cell_at, hidden_shr, param, bounded, RefOf, shr_vals, shr_Tells, Stays, stay_dropped, walk_of}
+use Rattle.counted_block.proofs.Names.{proved, Goes-dropped, leaves, false, BlockId, place, content, share_shown, tokens, ptr_and_marker, ShareData, share_opens, Types, seven, share_lent}
+use Rattle.counted_block.proofs.Names.{PairData, pair_at, pair_made}
 use Rattle.counted_block.specs.contracts.share.Share as share
 use Rattle.counted_block.specs.contracts.share.MaybeShare as maybe_share
 use Rattle.counted_block.specs.contracts.share.Share.gone.{ended, clauses}
@@ -22,7 +22,7 @@ gone_spec 𝓤 𝓛 𝓜 𝓡 wired S₀ W₀ V₀ K₀ Y₀ T₀ A₀ _ _ _ _ _
     let staying : Stays promise.signature.params promise.kept = (stay_dropped self yes, tt) in proved 𝓛 promise staying claims 𝓜 𝓡 (Goes-dropped 𝓛 8 self yes (λ κs x f. refl), tt)
     (#self at_types) routine (code.unfolded 𝓤 H 𝓜 𝓡 wired types d dh dd) (λ κs. (shr_vals, tt)) (λ κs. (shr_Tells (named 0) κs.0 OwnRow, tt)) (λ κs qs bounds a gh are.
     let self_block : ℕ = a.0.ref_ptr.0 in let self_offset : ℕ = a.0.ref_ptr.1 in let κ : Lft = κs.0 in let s : OwnRow.Denot = a.0.now in let p : Ptr = s.at in let x : R.Denot = s.value in
-    let k = h.dealloc_token s.heap in let z : BlockId = s.id in let β : Lft = stay z in let Beside : Fml = tokens 7 κs.1 qs.1 in let holds = g.holds s.key in let P : Fml = content S W R k z x in
+    let k = h.dealloc_token s.heap in let z : BlockId = s.id in let Beside : Fml = tokens 7 κs.1 qs.1 in let holds = g.holds s.key in let P : Fml = content S W R k z x in
     let start : (walk_of 𝓛 promise staying claims).Ghost = ((κs, qs, bounds, a, (vptr self_block self_offset ∷ [], tt)), gh) in let returned : Val → SProp 𝓤 =
     (walk_of 𝓛 promise staying claims).post start in qed 𝓛 (((‵ (flft κ qs.0) ⊛ ‵ Beside) ⊛ ‵ (owns (types_at promise.signature.params κs) a start.0.4)) ∷ raw (fact 𝓤 _) ∷
     raw (fact 𝓤 _) ∷ raw (fact 𝓤 _) ∷ raw (fact 𝓤 _) ∷ raw (fact 𝓤 _) ∷ raw (fact 𝓤 _) ∷ raw (fact 𝓤 _) ∷ ‵ ftrue ∷ []) ∵ keep ! (0 ∷ []) $ split ! $ split ! $
@@ -37,9 +37,9 @@ gone_spec 𝓤 𝓛 𝓜 𝓡 wired S₀ W₀ V₀ K₀ Y₀ T₀ A₀ _ _ _ _ _
     sets ! (agg ! (no_more !)) refl (tt, tt) $ sets ! (agg ! (and_then ! (get ! refl) (and_then ! (get ! refl) (no_more !)))) refl (tt, (tt, (tt, tt))) $
     -- [the token; the fields; what is kept; the value; the others]
     nothing ! $ move ! (0 ∷ 3 ∷ 4 ∷ []) $ fjoin3 ! $ nothing ! $ fpack ! (place z ≡ place z) (λ _. ftrue) refl $ fjoin ! $
-    let mh : MaybeRow.Denot = record { at = place z; marker = s.marker; id = z; key = s.key; value = x; heap = s.heap; there = false } in
+    let mh : MaybeRow.Denot = record { at = place z; marker = s.marker; id = z; key = s.key; value = x; heap = s.heap; there = false; last = false } in
     use0 𝓛 (‵ (PairData.own_val (place z, (tt, tt)) (ptr_and_marker (place z) ∷ []))) (pair_made 𝓛 (place z)) $ fjoin ! $
     -- [the result; the token; the fields; the others]
-    move ! (1 ∷ 3 ∷ []) $ join ! $ nothing ! $ nothing ! $ fjoin ! $ let Told : Type 0 = (z ≡ z) × (s.key ≡ s.key) × (x ≡ x) × (s.heap ≡ s.heap) × (false ≡ false) in
-    use0 𝓛 (raw (fact 𝓤 Told)) (fact_i 𝓤 Told (emp 𝓤) (refl, refl, refl, refl, refl)) $ returns ! (look_at ! 0 refl) $ free_all ! refl $ keep ! (2 ∷ 1 ∷ 3 ∷ 0 ∷ []) $
+    move ! (1 ∷ 3 ∷ []) $ join ! $ nothing ! $ nothing ! $ fjoin ! $ let Told : Type 0 = (z ≡ z) × (s.key ≡ s.key) × (x ≡ x) × (s.heap ≡ s.heap) × (false ≡ false) × (false ≡ false) in
+    use0 𝓛 (raw (fact 𝓤 Told)) (fact_i 𝓤 Told (emp 𝓤) (refl, refl, refl, refl, refl, refl)) $ returns ! (look_at ! 0 refl) $ free_all ! refl $ keep ! (2 ∷ 1 ∷ 3 ∷ 0 ∷ []) $
     by ! (leaves 𝓛 promise staying claims start (ptr_and_marker (place z)) mh (tt, tt) (tt, tt)))))))

@@ -1,11 +1,11 @@
 -- `peek` is a load that tells nothing.
-use Rattle.counted_block.proofs.Names.{ℕ, ◌+◌, ◌^◌, List, [], ◌∷◌, sym, refl, lit<, w64, named, dcons, dnil, Val, vint, vptr, inst_fn, SProp, Lft, Fml, ftrue, flft, fhide, finv, ‵}
-use Rattle.counted_block.proofs.Names.{raw, ◌⊛◌, mean, at_ret, ◌$◌, ◌∵◌, !, qed, by, move, keep, drop, split, join, fsplit, fjoin, fpick, use1, use2, via, rewrite, feq_i, flt_i, hop}
-use Rattle.counted_block.proofs.Names.{stop, fld, addr, lit, of_opd, no_more, and_then, first, blocks, exec, Calls-last, returns, enter, alloc_all, pass_all, free_all, look_at, get, through, sets}
-use Rattle.counted_block.proofs.Names.{lands_last, env, agg, sub, whole, look_in, tables, fact, yes, RattleType, owns, types_at, plain, Ptr, block_ptr, nothing, peeks, looks, shuts, unhide, Is, fm}
-use Rattle.counted_block.proofs.Names.{shows, cell_at, hidden_shr, param, bounded, RefOf, shr_vals, shr_Tells, shr_bor-open, obor_close, tokens_halve, Stays, stay_dropped, walk_of, Goes-dropped}
-use Rattle.counted_block.proofs.Names.{after, proved, leaves, seq_cst, found, finds, loads, BlockId, stay, block, content, share_shown, tokens, ShareData, share_opens, kept_inv, Types, seven}
-use Rattle.counted_block.proofs.Names.{share_lent, pair_at}
+use Rattle.counted_block.proofs.Names.{ℕ, ◌+◌, ◌^◌, List, [], ◌∷◌, sym, refl, lit<, w64, named, dcons, dnil, Val, vint, vptr, inst_fn, SProp, Lft, Fml, ftrue, flft, fhide, finv, ‵, raw, ◌⊛◌}
+use Rattle.counted_block.proofs.Names.{mean, at_ret, ◌$◌, ◌∵◌, !, qed, by, move, keep, drop, split, join, fsplit, fjoin, fpick, use1, use2, via, rewrite, feq_i, flt_i, hop, stop, fld, addr}
+use Rattle.counted_block.proofs.Names.{lit, of_opd, no_more, and_then, first, blocks, exec, Calls-last, returns, enter, alloc_all, pass_all, free_all, look_at, get, through, sets}
+use Rattle.counted_block.proofs.Names.{lands_last, env, agg, sub, whole, look_in, tables, fact, yes, RattleType, owns, types_at, plain, Ptr, block_ptr, nothing, peeks, looks, shuts, unhide}
+use Rattle.counted_block.proofs.Names.{Is, fm, shows, cell_at, hidden_shr, param, bounded, RefOf, shr_vals, shr_Tells, shr_bor-open, obor_close, Stays, stay_dropped, walk_of, Goes-dropped}
+use Rattle.counted_block.proofs.Names.{after, proved, leaves, seq_cst, found, finds, loads, BlockId, block, content, share_shown, tokens, ShareData, share_opens, kept_inv, Types, seven}
+use Rattle.counted_block.proofs.Names.{share_lent, pair_at, halve, of_shares, gripped}
 use Rattle.counted_block.specs.contracts.share.Share as share
 use Rattle.counted_block.specs.contracts.seat.Seat as seat
 use Rattle.counted_block.proofs.Entering as entering
@@ -24,7 +24,7 @@ peek_spec 𝓤 𝓛 𝓜 𝓡 wired S₀ W₀ V₀ K₀ Y₀ T₀ A₀ _ _ _ _ _
     let staying : Stays promise.signature.params promise.kept = (stay_dropped self yes, tt) in proved 𝓛 promise staying claims 𝓜 𝓡 (Goes-dropped 𝓛 8 self yes (λ κs x f. refl), tt)
     (#self at_types) routine (code.unfolded 𝓤 H 𝓜 𝓡 wired types d dh dd) (λ κs. (shr_vals, tt)) (λ κs. (shr_Tells (named 0) κs.0 OwnRow, tt)) (λ κs qs bounds a gh are.
     let self_block : ℕ = a.0.ref_ptr.0 in let self_offset : ℕ = a.0.ref_ptr.1 in let κ : Lft = κs.0 in let s : OwnRow.Denot = a.0.now in let p : Ptr = s.at in let x : R.Denot = s.value in
-    let k = h.dealloc_token s.heap in let z : BlockId = s.id in let β : Lft = stay z in let pb : ℕ = z.block in let e : ℕ = z.offset + 0 in let Beside : Fml = tokens 7 κs.1 qs.1 in
+    let k = h.dealloc_token s.heap in let z : BlockId = s.id in let pb : ℕ = z.block in let e : ℕ = z.offset + 0 in let Beside : Fml = tokens 7 κs.1 qs.1 in
     let holds = g.holds s.key in let P : Fml = content S W R k z x in let J : Fml = block S W V.coded.code holds g.out P z in let start : (walk_of 𝓛 promise staying claims).Ghost =
     ((κs, qs, bounds, a, (vptr self_block self_offset ∷ [], tt)), gh) in let returned : Val → SProp 𝓤 = (walk_of 𝓛 promise staying claims).post start in
     qed 𝓛 (((‵ (flft κ qs.0) ⊛ ‵ Beside) ⊛ ‵ (owns (types_at promise.signature.params κs) a start.0.4)) ∷ raw (fact 𝓤 _) ∷ raw (fact 𝓤 _) ∷ raw (fact 𝓤 _) ∷
@@ -37,8 +37,8 @@ peek_spec 𝓤 𝓛 𝓜 𝓡 wired S₀ W₀ V₀ K₀ Y₀ T₀ A₀ _ _ _ _ _
     pair_at p z at vs is_so in rewrite ! 1 (λ (ws : List Val). ‵ (cell_at q D.mir ws self_block self_offset)) ev refl $ first ! $ blocks ! $
     sets ! (addr ! (through ! refl (fld ! refl (hop ! (look_in ! 1 (sub ! 0 refl (whole !))) (fld ! refl (stop !)))))) refl (tt, tt) $
     rewrite ! 1 (λ (ws : List Val). ‵ (cell_at q D.mir ws self_block self_offset)) (sym ev) refl $ move ! (1 ∷ 0 ∷ 2 ∷ []) $ shuts ! tt D q (p, (tt, tt)) vs self_block self_offset $
-    -- [the token; the fields; the tally's token, lent; the invariant; the others]
-    move ! (2 ∷ 0 ∷ []) $ shr_bor-open ! tt (tokens_halve 𝓛 β) (λ r. let out : ℕ → Fml = λ _. flft β r in move ! (3 ∷ 1 ∷ []) $
+    -- [the token; the fields; the grips, lent; the invariant; the others]
+    move ! (2 ∷ 0 ∷ []) $ shr_bor-open ! tt (halve 𝓛 z.grips of_shares) (λ r. let out : ℕ → Fml = λ _. gripped z.grips of_shares r in move ! (3 ∷ 1 ∷ []) $
     use2 𝓛 (raw (machine.C _ (vptr pb e ∷ seq_cst ∷ []) (λ u. mean 𝓛 (found out u))))
     (via 𝓤 _ (entering.glances 𝓛 S W V.coded holds g.out P z r) (loads 𝓛 𝓜 𝓡 (code.calls-std::sync::atomic::raw::load 𝓡.env wired) (block_ptr pb e) out)) $
     sets ! (agg ! (and_then ! (lit ! tt) (no_more !))) refl (tt, (record { fits = lit< tt }, tt)) $

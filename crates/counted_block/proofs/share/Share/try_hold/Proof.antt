@@ -1,12 +1,12 @@
 -- `try_hold` is one step on the holds of the block.
-use Rattle.counted_block.proofs.Names.{◌≡◌, ℕ, ◌+◌, ◌^◌, eqb, List, [], ◌∷◌, ◌++◌, sym, refl, lit<, w64, named, dcons, dnil, Val, vint, vptr, vstruct, vcons, vnil, of_list}
-use Rattle.counted_block.proofs.Names.{inst_fn, SProp, emp, Lft, Fml, ftrue, fsep, feq, flft, fhide, finv, ‵, raw, ◌⊛◌, mean, at_ret, ◌$◌, ◌∵◌, !, qed, by, move, keep, drop, split}
-use Rattle.counted_block.proofs.Names.{join, fsplit, fjoin, fjoin3, fpick, fpack, use0, use1, use2, via, rewrite, feq_i, flt_i, stop, hop, fld, addr, load, lit, of_opd, no_more, and_then, first, Is}
-use Rattle.counted_block.proofs.Names.{blocks, exec, Calls-last, returns, enter, alloc_all, pass_all, free_all, look_at, get, through, sets, lands_last, env, agg, sub, whole, look_in, tables, fact}
-use Rattle.counted_block.proofs.Names.{fact_i, yes, RattleType, Valss, owns, types_at, plain, Ptr, block_ptr, nothing, peeks, looks, shuts, unhide, shows, cell_at, hidden_shr, u64, param, bounded}
-use Rattle.counted_block.proofs.Names.{RefOf, shr_vals, shr_Tells, shr_bor-open, obor_close, tokens_halve, Stays, stay_dropped, walk_of, Goes-dropped, after, proved, leaves, fm, seq_cst, found, not}
-use Rattle.counted_block.proofs.Names.{finds, BlockId, stay, place, block, content, kept_of, share_shown, tokens, ptr_and_marker, ShareData, share_opens, kept_shows, bumps, Types, seven, share_lent}
-use Rattle.counted_block.proofs.Names.{PairData, pair_at, pair_made}
+use Rattle.counted_block.proofs.Names.{◌≡◌, ℕ, ◌+◌, ◌^◌, eqb, List, [], ◌∷◌, ◌++◌, sym, refl, lit<, w64, named, dcons, dnil, Val, vint, vptr, vstruct, vcons, vnil, of_list, inst_fn, SProp}
+use Rattle.counted_block.proofs.Names.{emp, Lft, Fml, ftrue, fsep, feq, flft, fhide, finv, ‵, raw, ◌⊛◌, mean, at_ret, ◌$◌, ◌∵◌, !, qed, by, move, keep, drop, split, join, fsplit, fjoin}
+use Rattle.counted_block.proofs.Names.{fjoin3, fpick, fpack, use0, use1, use2, via, rewrite, feq_i, flt_i, stop, hop, fld, addr, load, lit, of_opd, no_more, and_then, first, Is, blocks}
+use Rattle.counted_block.proofs.Names.{exec, Calls-last, returns, enter, alloc_all, pass_all, free_all, look_at, get, through, sets, lands_last, env, agg, sub, whole, look_in, tables, fact}
+use Rattle.counted_block.proofs.Names.{fact_i, yes, RattleType, Valss, owns, types_at, plain, Ptr, block_ptr, nothing, peeks, looks, shuts, unhide, shows, cell_at, hidden_shr, u64, param}
+use Rattle.counted_block.proofs.Names.{bounded, RefOf, shr_vals, shr_Tells, shr_bor-open, obor_close, Stays, stay_dropped, walk_of, Goes-dropped, after, proved, leaves, fm, seq_cst, found}
+use Rattle.counted_block.proofs.Names.{not, finds, BlockId, place, block, content, kept_of, share_shown, tokens, ptr_and_marker, ShareData, share_opens, kept_shows, bumps, Types, seven}
+use Rattle.counted_block.proofs.Names.{share_lent, PairData, pair_at, pair_made, halve, of_shares}
 use Rattle.counted_block.specs.contracts.share.Share as share
 use Rattle.counted_block.specs.contracts.hold.MaybeHold as maybe_hold
 use Rattle.counted_block.proofs.Holds as holding
@@ -25,7 +25,7 @@ try_hold_spec 𝓤 𝓛 𝓜 𝓡 wired S₀ W₀ V₀ K₀ Y₀ T₀ A₀ _ _ _
     let staying : Stays promise.signature.params promise.kept = (stay_dropped self yes, tt) in proved 𝓛 promise staying claims 𝓜 𝓡 (Goes-dropped 𝓛 8 self yes (λ κs x f. refl), tt)
     (#self at_types) routine (code.unfolded 𝓤 H 𝓜 𝓡 wired types d dh dd) (λ κs. (shr_vals, tt)) (λ κs. (shr_Tells (named 0) κs.0 OwnRow, tt)) (λ κs qs bounds a gh are.
     let self_block : ℕ = a.0.ref_ptr.0 in let self_offset : ℕ = a.0.ref_ptr.1 in let κ : Lft = κs.0 in let s : OwnRow.Denot = a.0.now in let p : Ptr = s.at in let x : R.Denot = s.value in
-    let k = h.dealloc_token s.heap in let z : BlockId = s.id in let β : Lft = stay z in let Beside : Fml = tokens 7 κs.1 qs.1 in let pb : ℕ = z.block in let e : ℕ = z.offset + 8 in
+    let k = h.dealloc_token s.heap in let z : BlockId = s.id in let Beside : Fml = tokens 7 κs.1 qs.1 in let pb : ℕ = z.block in let e : ℕ = z.offset + 8 in
     let P : Fml = content S W R k z x in let holds = g.holds s.key in let J : Fml = block S W V.coded.code holds g.out P z in let Kp : Fml = kept_of S W R V.coded.code holds g.out k z x in
     let start : (walk_of 𝓛 promise staying claims).Ghost = ((κs, qs, bounds, a, (vptr self_block self_offset ∷ [], tt)), gh) in let returned : Val → SProp 𝓤 =
     (walk_of 𝓛 promise staying claims).post start in qed 𝓛 (((‵ (flft κ qs.0) ⊛ ‵ Beside) ⊛ ‵ (owns (types_at promise.signature.params κs) a start.0.4)) ∷ raw (fact 𝓤 _) ∷
@@ -41,8 +41,8 @@ try_hold_spec 𝓤 𝓛 𝓜 𝓡 wired S₀ W₀ V₀ K₀ Y₀ T₀ A₀ _ _ _
     rewrite ! 1 (λ (ws : List Val). ‵ (cell_at q D.mir ws self_block self_offset)) ev refl $ first ! $ blocks ! $
     sets ! (addr ! (through ! refl (fld ! refl (hop ! (look_in ! 1 (sub ! 0 refl (whole !))) (fld ! refl (stop !)))))) refl (tt, tt) $
     rewrite ! 1 (λ (ws : List Val). ‵ (cell_at q D.mir ws self_block self_offset)) (sym ev) refl $ move ! (1 ∷ 0 ∷ 2 ∷ []) $ shuts ! tt D q (p, (tt, tt)) vs self_block self_offset $
-    -- [the token; the fields; the tally's token, lent; the invariant; what is kept; the value; the others]
-    move ! (2 ∷ 0 ∷ []) $ shr_bor-open ! tt (tokens_halve 𝓛 β) (λ r. let out : ℕ → Fml = holding.with_hold 𝓛 S W V.coded holds g.out P z r in move ! (3 ∷ 1 ∷ []) $
+    -- [the token; the fields; the grips, lent; the invariant; what is kept; the value; the others]
+    move ! (2 ∷ 0 ∷ []) $ shr_bor-open ! tt (halve 𝓛 z.grips of_shares) (λ r. let out : ℕ → Fml = holding.with_hold 𝓛 S W V.coded holds g.out P z r in move ! (3 ∷ 1 ∷ []) $
     use2 𝓛 (raw (machine.C _ (vptr pb e ∷ seq_cst ∷ []) (λ u. mean 𝓛 (found out u))))
     (via 𝓤 _ (holding.holds_more 𝓛 S W V.coded holds g.out P z r) (bumps 𝓛 𝓜 𝓡 (code.calls-std::sync::atomic::raw::saturating_increment 𝓡.env wired) (block_ptr pb e) out)) $
     sets ! (agg ! (and_then ! (lit ! tt) (no_more !))) refl (tt, (record { fits = lit< tt }, tt)) $

@@ -1,10 +1,10 @@
 -- `value` shows what every share sees.
-use Rattle.counted_block.proofs.Names.{◌≡◌, ℕ, ◌+◌, List, [], ◌∷◌, sym, refl, named, dcons, dnil, Val, vptr, inst_fn, SProp, emp, Lft, Fml, ftrue, flft, fhide, ‵, raw, ◌⊛◌}
-use Rattle.counted_block.proofs.Names.{at_ret, ◌$◌, ◌∵◌, !, qed, by, move, keep, drop, split, join, fsplit, fjoin, fpick, use0, use1, rewrite, feq_i, stop, hop, fld, addr, of_opd, first}
-use Rattle.counted_block.proofs.Names.{blocks, exec, returns, enter, alloc_all, pass_all, free_all, look_at, get, through, sets, env, sub, whole, look_in, tables, fact, fact_i, yes, RattleType, Ptr}
-use Rattle.counted_block.proofs.Names.{owns, types_at, plain, nothing, peeks, looks, shuts, unhide, Is, shows, cell_at, hidden_shr, param, bounded, RefOf, shr_vals, shr_Tells, Stays, stay_dropped}
-use Rattle.counted_block.proofs.Names.{walk_of, Goes-dropped, after, proved, leaves, sets_last, hide, param_laws, ◌+ₚ◌, lent_at, lent_at_shr_laws, at_value, BlockId, place, content, looked_at}
-use Rattle.counted_block.proofs.Names.{share_shown, tokens, ShareData, share_opens, share_sees, Types, seven, share_lent, pair_at}
+use Rattle.counted_block.proofs.Names.{◌≡◌, ℕ, ◌+◌, List, [], ◌∷◌, sym, refl, named, dcons, dnil, Val, vptr, inst_fn, SProp, emp, Lft, Fml, ftrue, flft, fhide, ‵, raw, ◌⊛◌, at_ret, ◌$◌, ◌∵◌}
+use Rattle.counted_block.proofs.Names.{ !, qed, by, move, keep, drop, split, join, fsplit, fjoin, fpick, use0, use1, rewrite, feq_i, stop, hop, fld, addr, of_opd, first, blocks, exec}
+use Rattle.counted_block.proofs.Names.{returns, enter, alloc_all, pass_all, free_all, look_at, get, through, sets, env, sub, whole, look_in, tables, fact, fact_i, yes, RattleType, Ptr, owns}
+use Rattle.counted_block.proofs.Names.{types_at, plain, nothing, peeks, looks, shuts, unhide, Is, shows, cell_at, hidden_shr, param, bounded, RefOf, shr_vals, shr_Tells, Stays, stay_dropped}
+use Rattle.counted_block.proofs.Names.{walk_of, Goes-dropped, after, proved, leaves, sets_last, hide, param_laws, ◌+ₚ◌, lent_at, lent_at_shr_laws, at_value, BlockId, place, content}
+use Rattle.counted_block.proofs.Names.{looked_at, share_shown, tokens, ShareData, share_opens, Types, seven, share_lent, pair_at, owner_sees, is_one, of_shares}
 use Rattle.counted_block.specs.contracts.share.Share as share
 use Rattle.counted_block.specs.contracts.share.Share.value.{ended, clauses}
 use Rattle.counted_block.specs.contracts.share.Share.value.Key.{name as #self}
@@ -28,8 +28,8 @@ value_spec 𝓤 𝓛 𝓜 𝓡 wired S₀ W₀ V₀ K₀ Y₀ T₀ A₀ _ _ _ _ 
     keep ! (1 ∷ 3 ∷ 4 ∷ []) $ enter ! machine.C machine.Λ routine (vptr self_block self_offset ∷ []) returned $ alloc_all ! (λ l. pass_all ! refl ((tt, tt), tt) $
     let here = env routine.locals l in use1 𝓛 (‵ (hidden_shr D κ (p, (tt, tt)) self_block self_offset) ⊛ ‵ (fhide (share_shown S W R V.coded.code (g.holds s.key) g.out k z x p κ)))
     (share_lent S W V K Y R A g h 𝓛 κ s self_block self_offset) $ split ! $ move ! (1 ∷ []) $ unhide ! $ fsplit ! $ fpick ! (λ at. drop ! $
-    use1 𝓛 (‵ (lent_at R (place z +ₚ at_value S W R) x κ)) (share_sees S W V.coded.code (g.holds s.key) g.out (content S W R k z x) z (looked_at S W R k z x) (lent_at_shr_laws R
-    (param_laws 5 T₀ LT).shr_laws (place z +ₚ at_value S W R) x) 𝓛 κ) $ fsplit ! $ drop ! $ hide ! $ move ! (1 ∷ 2 ∷ []) $ looks ! tt D (share_opens S W V K Y R A g h 𝓛) (p, (tt, tt))
+    use1 𝓛 (‵ (lent_at R (place z +ₚ at_value S W R) x κ)) (owner_sees S W V.coded.code (g.holds s.key) g.out (content S W R k z x) z (looked_at S W R k z x) (lent_at_shr_laws R
+    (param_laws 5 T₀ LT).shr_laws (place z +ₚ at_value S W R) x) 𝓛 is_one of_shares κ) $ fsplit ! $ drop ! $ hide ! $ move ! (1 ∷ 2 ∷ []) $ looks ! tt D (share_opens S W V K Y R A g h 𝓛) (p, (tt, tt))
     self_block self_offset (λ q vs. move ! (1 ∷ []) $ peeks ! D (Is D) (shows 𝓛 D) (p, (tt, tt)) vs (λ is_so. let ev = pair_at p z at vs is_so in
     rewrite ! 1 (λ (ws : List Val). ‵ (cell_at q D.mir ws self_block self_offset)) ev refl $ first ! $ blocks ! $
     sets_last ! (addr ! (through ! refl (fld ! refl (hop ! (look_in ! 1 (sub ! 0 refl (whole !))) (fld ! refl (stop !)))))) refl (tt, tt) $ exec ! machine.C machine.Λ here (after 1 routine.body)

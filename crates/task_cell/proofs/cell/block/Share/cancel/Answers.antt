@@ -9,7 +9,7 @@ pub returns-in_default : goal.returns-in_default
 returns-in_default g c = let s = c.requires.party in record { path = cancels_over _ _ _ _ s.0 s.1 (c.in_default.ensures.path s.0 s.1) }
 
 pub none-requires : goal.none-requires
-none-requires g c = record { there = c.in-Some.ensures.share.is_there ∙ ap brings_share c.in-Busy.is }
+none-requires g c = record { there = c.in-Some.ensures.share.is_there ∙ ap brings_share c.in-Busy.is; last = c.in-Some.ensures.share.is_last }
 
 pub leave_closed-requires-clause-cell : goal.leave_closed-requires-clause-cell
 leave_closed-requires-clause-cell g c = let f = subst (λ x. Closes c.args.party.now c.close_task.new.party (Some x)) c.in-Busy.is c.in-Some.ensures.path in let x = closed_busy _ _ _ c.requires.party f in x.1.cell ∙ c.requires.cell.0

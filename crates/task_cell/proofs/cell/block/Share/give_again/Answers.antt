@@ -27,7 +27,7 @@ pub returns-in-Made-clause-cell : goal.returns-in-Made-clause-cell
 returns-in-Made-clause-cell g c = c.in-Made.ensures.seat.0 ∙ c.loop.invariant.cell
 
 pub returns-in-Made-clause-share : goal.returns-in-Made-clause-share
-returns-in-Made-clause-share g c = let i = c.loop.invariant in let e = c.in-Made.ensures.share in record { cell = (e.cell.0 ∙ i.same.0, e.cell.1 ∙ i.same.1); terms = e.terms ∙ i.same.2; is_there = e.is_there }
+returns-in-Made-clause-share g c = let i = c.loop.invariant in let e = c.in-Made.ensures.share in record { cell = (e.cell.0 ∙ i.same.0, e.cell.1 ∙ i.same.1); terms = e.terms ∙ i.same.2; is_there = e.is_there; is_last = e.is_last }
 
 pub returns-in-Ended-clause-cell : goal.returns-in-Ended-clause-cell
 returns-in-Ended-clause-cell g c = c.in-Ended.ensures.seat.0 ∙ c.loop.invariant.cell

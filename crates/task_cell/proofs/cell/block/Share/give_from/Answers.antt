@@ -21,7 +21,7 @@ pub returns-in-Ok-clause-changed : goal.returns-in-Ok-clause-changed
 returns-in-Ok-clause-changed g c = let e = c.in-Again.ensures in changed_by_key _ _ g.P.Change.attempt c.in-Again.found c.in-Ok.row _ _ _ e.share.2 e.tried.1 c.in-Ok.ensures.changed
 
 pub returns-in-Ok-clause-share : goal.returns-in-Ok-clause-share
-returns-in-Ok-clause-share g c = let i = c.in-Again.ensures.share in let e = c.in-Ok.ensures.share in record { cell = (e.cell.0 ∙ i.0, e.cell.1 ∙ i.1); terms = e.terms ∙ i.2; is_there = e.is_there }
+returns-in-Ok-clause-share g c = let i = c.in-Again.ensures.share in let e = c.in-Ok.ensures.share in record { cell = (e.cell.0 ∙ i.0, e.cell.1 ∙ i.1); terms = e.terms ∙ i.2; is_there = e.is_there; is_last = e.is_last }
 
 pub returns-in-Err-clause-cell : goal.returns-in-Err-clause-cell
 returns-in-Err-clause-cell g c = c.in-Err.ensures.cell ∙ c.in-Again.ensures.seat.0

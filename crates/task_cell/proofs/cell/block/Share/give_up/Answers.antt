@@ -12,4 +12,4 @@ returns-clause-path g c = λ hand answer s. let f = c.give-found.ensures in
     subst (λ b. GivesUp hand answer c.args.party.now c.give-found.new.party b) (sym c.is_last.ensures) (gave_up hand answer c.args.party.now c.give-found.new.party c.give-found.result.0 s f.cell f.made)
 
 pub returns-clause-share : goal.returns-clause-share
-returns-clause-share g c = let e = c.give-found.ensures.share in record { cell = e.cell; terms = e.terms; is_there = e.is_there ∙ sym c.is_last.ensures }
+returns-clause-share g c = let e = c.give-found.ensures.share in record { cell = e.cell; terms = e.terms; is_there = e.is_there; is_last = e.is_last ∙ sym c.is_last.ensures }

@@ -29,4 +29,4 @@ returns-clause-path g c = let s = c.requires.party in let put = c.take-unclaimed
     (gives_rest c.args.party.now c.note_output_dropped.new.party c.give-found.new.party _ d given.cell (given.knows.closed (ap (λ m. saw_closed (head_of m.0.members).deeds) d.is ∙ s.2)) given.made)
 
 pub returns-clause-share : goal.returns-clause-share
-returns-clause-share g c = let e = c.give-found.ensures.share in record { cell = e.cell; terms = e.terms; is_there = e.is_there ∙ (left_by_last c.give-found.result.0.references ∙ ap (λ k. nat_eq k 0) (sym c.references.ensures)) }
+returns-clause-share g c = let e = c.give-found.ensures.share in record { cell = e.cell; terms = e.terms; is_there = e.is_there; is_last = e.is_last ∙ (left_by_last c.give-found.result.0.references ∙ ap (λ k. nat_eq k 0) (sym c.references.ensures)) }

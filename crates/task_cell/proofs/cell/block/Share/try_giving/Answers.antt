@@ -1,5 +1,5 @@
 use Rattle.task_cell.proofs.Vocabulary.{not, inl, sym, refl, ap, ◌∙◌, subst, number_of}
-use Rattle.task_cell.proofs.Attempts.{answered, changed_by, counts_made, counts_missed, seeing_first, seeing_next, found_next, other_word, other_or_undecided, may_exchange, may_less}
+use Rattle.task_cell.proofs.Attempts.{answered, changed_by, row_made, counts_made, counts_missed, seeing_first, seeing_next, found_next, other_word, other_or_undecided, may_exchange, may_less}
 use Rattle.task_cell.proofs.cell.block.Share.try_giving.Goals as goal
 use Rattle.task_core.specs.Word.{HasRoom}
 
@@ -26,6 +26,7 @@ returns-then-found-bits-clause-share g c = let self = c.args.self in let e = c.p
     let x = answered g.P.Change.attempt _ self.block.key.limit c.args.word c.in-Some.made (sym c.in-Some.is ∙ c.next.ensures) limit in record {
       cell = e.cell;
       terms = e.terms;
+      is_last = e.is_last ∙ ap (λ x. g.P.Change.attempt.lasts x) (row_made g.P.Change.attempt _ _ c.args.word c.in-Some.made.1 (c.if-found-bits.true ∙ (c.bits-3.ensures ∙ sym c.bits.ensures)) c.bits.ensures (ap (λ z. z.1) x.1));
       is_there = e.is_there ∙ ap (λ b. not b) (counts_made g.P.Change.attempt _ _ c.args.word c.in-Some.made.1 (c.if-found-bits.true ∙ (c.bits-3.ensures ∙ sym c.bits.ensures)) c.bits.ensures (ap (λ z. z.1) x.1));
     }
 
@@ -40,7 +41,7 @@ returns-clause-tried g c = let s = c.requires.seen in let e = c.part_at-found.en
 
 pub returns-in-Ok-clause-again : goal.returns-in-Ok-clause-again
 returns-in-Ok-clause-again g c = let self = c.args.self in let limit = ap (λ x. x.limit) c.cell.ensures ∙ sym self.fitting.0 in let e = c.in-Ok.ensures.found in
-    (e.1, other_or_undecided g.P.Change.attempt _ self.block.key.limit c.args.word c.in-Ok.found (sym c.in_default.is ∙ c.next.ensures) limit e.0)
+    (e.1, other_or_undecided g.P.Change.attempt _ self.block.key.limit c.args.word c.in-Ok.found (sym c.in_default.is ∙ c.next.ensures) limit e.0 c.in-Ok.ensures.held)
 
 pub returns-clause-again : goal.returns-clause-again
 returns-clause-again g c = let e = c.part_at-found.ensures.seat.2 in (

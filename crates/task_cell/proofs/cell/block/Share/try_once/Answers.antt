@@ -26,11 +26,12 @@ returns-then-found-bits-clause-share g c = let self = c.args.self.now in let e =
     let x = answered g.P.Change.attempt _ self.block.key.limit c.args.word c.in-Some.made (sym c.in-Some.is ∙ c.next.ensures) limit in record {
       cell = e.cell;
       terms = e.terms;
+      is_last = e.is_last;
       is_there = e.is_there ∙ counts_made g.P.Change.attempt _ _ c.args.word c.in-Some.made.1 (c.if-found-bits.true ∙ (c.bits-3.ensures ∙ sym c.bits.ensures)) c.bits.ensures (ap (λ z. z.1) x.1);
     }
 
 pub none-requires : goal.none-requires
-none-requires g c = record { there = c.gain_at-found.ensures.share.is_there ∙ counts_missed g.P.Change.attempt _ _ (λ h. c.if-found-bits.false (h ∙ (c.bits.ensures ∙ sym c.bits-3.ensures))) }
+none-requires g c = record { last = c.gain_at-found.ensures.share.is_last; there = c.gain_at-found.ensures.share.is_there ∙ counts_missed g.P.Change.attempt _ _ (λ h. c.if-found-bits.false (h ∙ (c.bits.ensures ∙ sym c.bits-3.ensures))) }
 
 pub returns-clause-tried : goal.returns-clause-tried
 returns-clause-tried g c = let s = c.requires.seen in let e = c.gain_at-found.ensures.seat.2 in (
@@ -40,7 +41,7 @@ returns-clause-tried g c = let s = c.requires.seen in let e = c.gain_at-found.en
 
 pub returns-in-Ok-clause-again : goal.returns-in-Ok-clause-again
 returns-in-Ok-clause-again g c = let self = c.args.self.now in let limit = ap (λ x. x.limit) c.cell.ensures ∙ sym self.fitting.0 in let e = c.in-Ok.ensures.found in
-    (e.1, other_or_undecided g.P.Change.attempt _ self.block.key.limit c.args.word c.in-Ok.found (sym c.in_default.is ∙ c.next.ensures) limit e.0)
+    (e.1, other_or_undecided g.P.Change.attempt _ self.block.key.limit c.args.word c.in-Ok.found (sym c.in_default.is ∙ c.next.ensures) limit e.0 c.in-Ok.ensures.held)
 
 pub returns-clause-again : goal.returns-clause-again
 returns-clause-again g c = let e = c.gain_at-found.ensures.seat.2 in (

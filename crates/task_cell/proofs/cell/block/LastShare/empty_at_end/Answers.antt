@@ -1,7 +1,7 @@
 use Rattle.task_cell.proofs.Vocabulary.{[], ◌∷◌, None, Nothing, Ended, EmptySlots, act}
 use Rattle.task_cell.proofs.Moved.{stands}
 use Rattle.task_cell.proofs.TaskMoves.{ends}
-use Rattle.task_cell.proofs.cell.block.Share.empty_at_end.Goals as goal
+use Rattle.task_cell.proofs.cell.block.LastShare.empty_at_end.Goals as goal
 
 pub empty-ledger-requires-clause-party : goal.empty-ledger-requires-clause-party
 empty-ledger-requires-clause-party g c = let s = c.requires.party in (None, Nothing, s.0, s.1)

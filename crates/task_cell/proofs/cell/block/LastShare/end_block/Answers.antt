@@ -1,10 +1,6 @@
 use Rattle.task_cell.proofs.Vocabulary.{ℕ, ap, sym, ◌∙◌, subst, refl, [], ◌∷◌, Witnesses, state_of, First, Second, None, IsEmpty, Waits}
-use Rattle.task_steps.proofs.Shares.{has_last}
 use Rattle.task_cell.proofs.Spawned.{last_word, left_empty}
-use Rattle.task_cell.proofs.cell.block.Share.end_block.Goals as goal
-
-pub close-requires-clause-last : goal.close-requires-clause-last
-close-requires-clause-last g c = let s = c.requires.party in has_last _ _ _ _ _ _ _ _ s.0 _ [] (ap (λ m. m.0) s.1) c.requires.last
+use Rattle.task_cell.proofs.cell.block.LastShare.end_block.Goals as goal
 
 pub returns-clause-word : goal.returns-clause-word
 returns-clause-word g c = let s = c.requires.party in let b = c.in_ok-close.field-0.value in
