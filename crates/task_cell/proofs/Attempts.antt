@@ -86,9 +86,9 @@ other_or_undecided change limit key v w unmade same goes_on held = by (ℕ_discr
 pub undecided : {Row : Type 0} (change : Attempt Row) (limit : ℕ) (v w : State) → number_of w ≡ number_of v → (v ≢ w) ⊎ IsUndecided limit change w → IsUndecided limit change w
 undecided change limit v w same = ⊎_elim (λ (other : v ≢ w). absurd (other (one_word v w (sym same)))) (λ (u : IsUndecided limit change w). u)
 
--- no word leaves an attempt undecided that each word decides
+-- no word leaves an attempt undecided that each word with a handle decides
 pub decided : {Row P : Type 0} (limit : ℕ) (change : Attempt Row) (w : State) → Decides limit change → P ⊎ IsUndecided limit change w → P
-decided limit change w all = ⊎_elim (λ p. p) (λ (u : IsUndecided limit change w). absurd (let is = all w in let neither = u.1 in cc))
+decided limit change w all = ⊎_elim (λ p. p) (λ (u : IsUndecided limit change w). absurd (let is = all w u.0 in let neither = u.1 in cc))
 
 -- a flag is set or clear
 pub set_or_clear : (b : Bool) → (b || not b) ≡ true
@@ -157,6 +157,12 @@ module _ {F T A : Type 0} where
   looks_more i v w me now after s found other h = let t = (head_of now.0.members).tries in let u = (head_of after.0.members).tries in
       let seen : t ≡ s.tries = ap (λ (m : Me (TaskPlace F T A) View). (head_of m.0.members).tries) s.is in
       let one : looks_of t + 1 ≤ looks_of u = subst (λ x. looks_of t + 1 ≤ looks_of x) (sym found) (one_look v w t (subst (Names v) (sym seen) s.names) other) in omega (arith, h, one)
+
+  -- a party that has missed this often has missed once more, where it has found another word than it was tried on
+  pub misses_more : (n : ℕ) (v w : State) (me now after : Me (TaskPlace F T A) View) → HasSeen v me now → HasFound w now after → v ≢ w → HasMissed n now → HasMissed (n + 1) after
+  misses_more n v w me now after s found other h = let t = (head_of now.0.members).tries in let u = (head_of after.0.members).tries in
+      let seen : t ≡ s.tries = ap (λ (m : Me (TaskPlace F T A) View). (head_of m.0.members).tries) s.is in
+      let one : looks_of t + 1 ≤ looks_of u = subst (λ x. looks_of t + 1 ≤ looks_of x) (sym found) (one_look v w t (subst (Names v) (sym seen) s.names) (λ e. other (one_word v w (sym e)))) in omega (arith, h, one)
 
   -- a party that has looked before has missed as often as it was tried, or was left undecided
   pub misses_from : {Row N K : Type 0} (undecided : State → Type 0) (n : ℕ) (tried : TriedOnce Row N K) (me now after : Me (TaskPlace F T A) View) (w : State) → me.0 ≡ having_seen None me.0 → HasFound w me now

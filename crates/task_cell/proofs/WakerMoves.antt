@@ -25,10 +25,20 @@ use Rattle.task_cell.specs.WakerPaths as paths
 use mathlib.Core.Option as maybe
 use Rattle.task_steps.specs.Shares.{MayBring}
 use Rattle.task_steps.proofs.Handles.{gains_handle, wakes_task}
-use Rattle.task_cell.proofs.Attempts.{ended, may_bring_at, seeing_first, seeing_next}
+use Rattle.task_cell.proofs.Attempts.{ended, may_bring_at, seeing_first, seeing_next, set_or_clear}
+use Rattle.task_steps.specs.Attempts.{Decides, HasMissed, looks_of}
+use Rattle.std.proofs.Common.{arith, not, ◌&&◌, ◌||◌}
 use Rattle.task_steps.proofs.WakerOwed as owed
 use Rattle.task_cell.proofs.Carried.{keeps_places}
 use Rattle.task_cell.proofs.Moved.{moved, did, stands}
+
+-- a word with a handle is one on which the wake is made, or which ends it
+pub wake_decides : (limit : ℕ) → Decides limit to_wake
+wake_decides limit w held = ap (λ b. (b && is_open w) || not (is_open w)) held ∙ set_or_clear (is_open w)
+
+-- a word with a handle is one on which a reference is gained, or which is at the limit
+pub gain_decides : (limit : ℕ) → Decides limit to_gain
+gain_decides limit w held = ap (λ b. (b && nat_lt w.references limit) || not (nat_lt w.references limit)) held ∙ set_or_clear (nat_lt w.references limit)
 
 module _ {F T A : Type 0} where
   -- the seat of a lent waker after acts by which it comes back, with what they added
@@ -176,6 +186,10 @@ module _ {F T A : Type 0} where
     room = subst HasRoom (sym is) e.2.room;
     seen = seeing_next n w w me me q.seat.me (seeing_first w me None tt refl) is (e.1 (ap (is_over limit) (sym is) ∙ shows));
   }
+
+  -- the party has seen one word
+  pub looks_once : {values : Values F T} (limit n : ℕ) (w : State) (q : Party F T A) → w ≡ state_of n → is_over limit w ≡ false → observed values to_wake (step 2 0 0 0 maybe.none) (unmoved limit q).seat.me n q.seat.me → HasMissed 0 q.seat.me
+  looks_once limit n w q is shows e = let one = ap (λ (m : Me (TaskPlace F T A) View). looks_of (head_of m.0.members).tries) (e.1 (ap (is_over limit) (sym is) ∙ shows)) in omega (arith, one)
 
   -- the party has seen that the task is over, and has made the wake
   pub looks_over : {values : Values F T} (limit n : ℕ) (w : State) (q : Party F T A) → w ≡ state_of n → is_over limit w ≡ true → observed values to_wake (step 2 0 0 0 maybe.none) (unmoved limit q).seat.me n q.seat.me → WakesTask (unmoved limit q) q None

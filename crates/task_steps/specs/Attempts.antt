@@ -34,9 +34,9 @@ Names w (Some t) = t.seen ≡ w
 abbrev pub having_seen : Option Tries → View → View
 having_seen t v = view v.limit (trying (head_of v.members).at (head_of v.members).deeds t ∷ tail_of v.members)
 
--- each word lets the attempt make its change, or ends it
+-- each word that shows a handle lets the attempt make its change, or ends it
 abbrev pub Decides : {Row : Type 0} → ℕ → Attempt Row → Type 0
-Decides limit a = (w : State) → (a.applies limit w || a.ends limit w) ≡ true
+Decides limit a = (w : State) → is_held w ≡ true → (a.applies limit w || a.ends limit w) ≡ true
 
 -- this word does neither, though it shows a handle
 abbrev pub IsUndecided : {Row : Type 0} → ℕ → Attempt Row → State → Type 0

@@ -114,6 +114,7 @@ impl<R: Drop, F: Yields, Q: Drop, M: Drop, A: Drop, B: Allocator + Copy> Share<R
         ensures path { (y : Slot F _) → StandsWith Pending (work_first y []) party.old → IfOk result (λ tried. EndsPending (work_first y []) party.old party.new (end_of tried)) }
         ensures share { IfOk result (λ tried. IfOk tried (λ r. Leaves self r.1 (not (ends_run r.0)))) }
         ensures kept { IfOk result (λ tried. IfErr tried (λ share. IsSame self share)) }
+        ensures left { IfErr result (λ share. IsSame self share) }
         ensures missed { IfErr result (λ _. HasMissed (2 ^ 64 - 2) party.new.seat.me) }
     {
         match self.give_some::<EndingPending>(party, word, u64::MAX) {

@@ -1,6 +1,7 @@
 //! Gaining a reference for a new waker.
 ghost use Rattle.std.specs.Prelude.{◌≡◌, ◌<◌, List, [], ◌∷◌, IfSome, IfOk, IfErr, false};
 ghost use Rattle.task_core.specs.Word.{HasRoom};
+ghost use Rattle.task_steps.specs.Attempts.{HasMissed};
 ghost use Rattle.task_steps.specs.Rule.{view, fresh};
 ghost use Rattle.task_steps.specs.declared.table.Deed.{Deed};
 ghost use Rattle.task_cell.specs.Belongs.{HasMade, IsOf, cell_of, limit_in};
@@ -69,13 +70,14 @@ impl<R: Wait + Drop + Copy, F: Yields, Q: Drop, M: Drop, A: Drop, B: Allocator +
 }
 
 impl<R: Drop, F: Yields, Q: Drop, M: Drop, A: Drop, B: Allocator + Copy> Share<R, F, Q, M, A, B> {
-    /// A gain by whoever has a handle by reference, by at most 2^64 - 1 tries: a share for the new waker, and its party; or, where the count that is found is at the limit, the party of the call, which tells so. The outer error is that each try has missed, or that the word shows no handle.
+    /// A gain by whoever has a handle by reference, by at most 2^64 - 1 tries: a share for the new waker, and its party; or, where the count that is found is at the limit, the party of the call, which tells so. The outer error is the party where each try has missed.
     pub fn gain_some(
         &self,
-    ) -> Result<Result<(Self, Party<F, Kept<F>, A>), Party<F, Kept<F>, A>>, ()>
+    ) -> Result<Result<(Self, Party<F, Kept<F>, A>), Party<F, Kept<F>, A>>, Party<F, Kept<F>, A>>
         ensures share { IfOk result (λ gained. IfOk gained (λ n. cell_of n.0 ≡ cell_of self.now)) }
         ensures gains { IfOk result (λ gained. IfOk gained (λ n. IsOf self.now n.1 × (n.1.seat.me ≡ (view (limit_in self.now) (fresh as_waker ∷ []), [])))) }
         ensures at_limit { IfOk result (λ gained. IfErr gained (λ party. (path : List Deed) × GainPath (limit_in self.now) false path × HasMade self.now path party)) }
+        ensures missed { IfErr result (λ party. (party.seat.block ≡ self.now.block.id) × HasMissed (2 ^ 64 - 2) party.seat.me) }
     {
         let (word, mut party) = self.borrow();
         match self.attempt_some::<Gaining>(&mut party, word, u64::MAX) {
@@ -85,10 +87,7 @@ impl<R: Drop, F: Yields, Q: Drop, M: Drop, A: Drop, B: Allocator + Copy> Share<R
                 Ok(Ok((maybe.share(), gained)))
             }
             TriedOnce::Ended(_, ()) => Ok(Err(party)),
-            TriedOnce::Again(_, ()) => {
-                let Party { seat: _ } = party;
-                Err(())
-            }
+            TriedOnce::Again(_, ()) => Err(party),
         }
     }
 }

@@ -2,7 +2,7 @@
 ghost use Rattle.std.specs.Prelude.{◌≡◌, ◌<◌, List, [], ◌∷◌, IfSome, IfOk, IfErr, None, false};
 ghost use Rattle.task_core.specs.Word.{HasRoom};
 ghost use Rattle.task_steps.specs.Rule.{view, fresh};
-ghost use Rattle.task_steps.specs.Attempts.{HasChanged};
+ghost use Rattle.task_steps.specs.Attempts.{HasChanged, HasMissed};
 ghost use Rattle.task_steps.specs.Standing.{as_lent, as_runnable, as_deliverer};
 ghost use Rattle.task_steps.specs.declared.table.Deed.{Deed};
 ghost use Rattle.task_steps.specs.WakerScripts.{brings_runnable, to_wake};
@@ -36,6 +36,7 @@ impl<R: Drop, F: Yields, Q: Drop, M: Drop, A: Drop, B: Allocator + Copy> Share<R
     fn look_to_wake(&self) -> Result<(Party<F, Kept<F>, A>, Word), Party<F, Kept<F>, A>>
         ensures looks { IfOk result (λ looked. (p : _) × HasMade self.now [] p × Sees looked.1 p looked.0) }
         ensures over { IfErr result (λ party. (p : _) × HasMade self.now [] p × WakesTask p party None) }
+        ensures seen { IfOk result (λ looked. HasMissed 0 looked.0.seat.me) }
     {
         let (found, seat) = self.block.load_new_seat::<WakingAnew>();
         let word = Word::from_bits(found);
@@ -83,6 +84,7 @@ impl<R: Drop, F: Yields, Q: Drop, M: Drop, A: Drop, B: Allocator + Copy> Share<R
         ensures path { IfOk result.1 (λ woken. (p : _) × HasMade self.now [] p × WakesTask p result.0 (second woken)) }
         ensures share { IfOk result.1 (λ made. IfSome made (λ woken. cell_of woken.0 ≡ cell_of self.now)) }
         ensures again { IfErr result.1 (λ w. (p : _) × HasMade self.now [] p × Sees w p result.0) }
+        ensures missed { IfErr result.1 (λ _. HasMissed 1 result.0.seat.me) }
     {
         let (mut party, word) = match self.look_to_wake() {
             Ok(looked) => looked,
@@ -98,13 +100,14 @@ impl<R: Drop, F: Yields, Q: Drop, M: Drop, A: Drop, B: Allocator + Copy> Share<R
         }
     }
 
-    /// A wake of the task by a handle that is lent for it, by at most 2^64 - 1 tries: the Runnable that is to be handed to the schedule function; or, where there is none, the party of the call, which tells why. The outer error is that each try has missed, or that the word shows no handle.
+    /// A wake of the task by a handle that is lent for it, by at most 2^64 - 1 tries: the Runnable that is to be handed to the schedule function; or, where there is none, the party of the call, which tells why. The outer error is the party where each try has missed.
     pub fn wake_some(
         &self,
-    ) -> Result<Result<(Self, Party<F, Kept<F>, A>), Party<F, Kept<F>, A>>, ()>
+    ) -> Result<Result<(Self, Party<F, Kept<F>, A>), Party<F, Kept<F>, A>>, Party<F, Kept<F>, A>>
         ensures share { IfOk result (λ woken. IfOk woken (λ n. cell_of n.0 ≡ cell_of self.now)) }
         ensures delivers { IfOk result (λ woken. IfOk woken (λ n. IsOf self.now n.1 × (limit_of n.1 ≡ limit_in self.now) × Stands as_runnable n.1)) }
         ensures nothing { IfOk result (λ woken. IfErr woken (λ party. (path : List Deed) × TaskWakePath false path × HasMade self.now path party)) }
+        ensures missed { IfErr result (λ party. (party.seat.block ≡ self.now.block.id) × HasMissed (2 ^ 64 - 1) party.seat.me) }
     {
         let (party, woken) = self.wake_once();
         match woken {
@@ -119,11 +122,13 @@ impl<R: Drop, F: Yields, Q: Drop, M: Drop, A: Drop, B: Allocator + Copy> Share<R
         &self,
         mut party: Party<F, Kept<F>, A>,
         word: Word,
-    ) -> Result<Result<(Self, Party<F, Kept<F>, A>), Party<F, Kept<F>, A>>, ()>
+    ) -> Result<Result<(Self, Party<F, Kept<F>, A>), Party<F, Kept<F>, A>>, Party<F, Kept<F>, A>>
         requires party { (p : _) × HasMade self.now [] p × Sees word p party }
+        requires missed { HasMissed 1 party.seat.me }
         ensures share { IfOk result (λ woken. IfOk woken (λ n. cell_of n.0 ≡ cell_of self.now)) }
         ensures delivers { IfOk result (λ woken. IfOk woken (λ n. IsOf self.now n.1 × (limit_of n.1 ≡ limit_in self.now) × Stands as_runnable n.1)) }
         ensures nothing { IfOk result (λ woken. IfErr woken (λ party. (path : List Deed) × TaskWakePath false path × HasMade self.now path party)) }
+        ensures missed { IfErr result (λ party. (party.seat.block ≡ self.now.block.id) × HasMissed (2 ^ 64 - 1) party.seat.me) }
     {
         match self.attempt_some::<WakingTask>(&mut party, word, u64::MAX - 1) {
             TriedOnce::Made(found, maybe) => {
@@ -131,10 +136,7 @@ impl<R: Drop, F: Yields, Q: Drop, M: Drop, A: Drop, B: Allocator + Copy> Share<R
                 Ok(self.woken(party, made))
             }
             TriedOnce::Ended(_, ()) => Ok(Err(party)),
-            TriedOnce::Again(_, ()) => {
-                let Party { seat: _ } = party;
-                Err(())
-            }
+            TriedOnce::Again(_, ()) => Err(party),
         }
     }
 

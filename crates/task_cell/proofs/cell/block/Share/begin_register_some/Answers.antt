@@ -21,4 +21,4 @@ returns-in-Err-clause-path g c = let s = c.requires.party in let e = c.in_ok-alt
     found_one _ s.0 _ p q s.1 e.cell (subst (λ x. IfErr x (λ w. HasEnded (values_in c.args.self.now) (limit_in c.args.self.now) to_begin_register w p.seat.me q.seat.me)) c.in-Err.is e.ended)
 
 pub alter_some-requires-clause-decided : goal.alter_some-requires-clause-decided
-alter_some-requires-clause-decided g c = λ w. clear_or_set w.notifying
+alter_some-requires-clause-decided g c = λ w h. clear_or_set w.notifying

@@ -17,4 +17,4 @@ pub returns-in-Ended-clause-path : goal.returns-in-Ended-clause-path
 returns-in-Ended-clause-path g c = λ n s. looks_over _ c.args.party.now c.change_some.new.party n _ s c.change_some.ensures.cell c.in-Ended.ensures.tried
 
 pub returns-in-Again-clause-missed : goal.returns-in-Again-clause-missed
-returns-in-Again-clause-missed g c = decided c.args.self.now.block.key.limit to_cancel c.in-Again.field-0 (λ w. set_or_clear (is_open w)) c.in-Again.ensures.missed
+returns-in-Again-clause-missed g c = decided c.args.self.now.block.key.limit to_cancel c.in-Again.field-0 (λ w h. set_or_clear (is_open w)) c.in-Again.ensures.missed

@@ -16,4 +16,4 @@ returns-in-Made-clause-path g c = completes_then ReadyFutureDropped (work_first 
     (let changed = c.in-Made.ensures.tried in subst (Completes c.lay_output.new.party c.change_some.new.party) (sym changed.is) (completed (Output c.args.output.value) c.lay_output.new.party c.change_some.new.party changed.word (stands _ _ _ _ _ c.lay_output.ensures) c.change_some.ensures.cell changed.made))
 
 pub returns-in-Again-clause-missed : goal.returns-in-Again-clause-missed
-returns-in-Again-clause-missed g c = decided c.args.self.now.block.key.limit to_complete c.in-Again.field-0 (λ w. refl) c.in-Again.ensures.missed
+returns-in-Again-clause-missed g c = decided c.args.self.now.block.key.limit to_complete c.in-Again.field-0 (λ w h. refl) c.in-Again.ensures.missed

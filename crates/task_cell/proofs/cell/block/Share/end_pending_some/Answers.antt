@@ -18,4 +18,4 @@ pub returns-in-Ended-clause-path : goal.returns-in-Ended-clause-path
 returns-in-Ended-clause-path g c = λ y s. is_closed (found_closed_meanwhile _ (work_first y []) c.args.party.now c.give_some.new.party _ s c.in-Ended.ensures.seat.0 c.in-Ended.ensures.tried)
 
 pub returns-in-Again-clause-missed : goal.returns-in-Again-clause-missed
-returns-in-Again-clause-missed g c = let l = decided c.args.self.block.key.limit to_end_pending c.in-Again.field-0 (λ w. clear_or_set w.closed) c.in-Again.ensures.looked in omega (arith, l)
+returns-in-Again-clause-missed g c = let l = decided c.args.self.block.key.limit to_end_pending c.in-Again.field-0 (λ w h. clear_or_set w.closed) c.in-Again.ensures.looked in omega (arith, l)

@@ -14,7 +14,7 @@ pub returns-in-Made-clause-path : goal.returns-in-Made-clause-path
 returns-in-Made-clause-path g c = let s = c.requires.party in gives_up _ c.args.party.now c.give_change_some.new.party s.0 c.in-Made.found s.1 c.give_change_some.ensures.cell c.in-Made.ensures.tried
 
 pub returns-in-Again-clause-missed : goal.returns-in-Again-clause-missed
-returns-in-Again-clause-missed g c = decided c.args.self.block.key.limit to_detach c.in-Again.field-0 (λ w. refl) c.in-Again.ensures.missed
+returns-in-Again-clause-missed g c = decided c.args.self.block.key.limit to_detach c.in-Again.field-0 (λ w h. refl) c.in-Again.ensures.missed
 
 pub returns-in-Ended-clause-missed : goal.returns-in-Ended-clause-missed
 returns-in-Ended-clause-missed g c = never c.in-Ended.ensures.tried.at_end

@@ -14,4 +14,4 @@ pub returns-clause-path : goal.returns-clause-path
 returns-clause-path g c = let s = c.requires.party in let e = c.alter_some.ensures in tried_look_again _ _ s.0 c.alter_some.result c.args.party.now c.alter_some.new.party s.1 e.cell e.changed e.ended
 
 pub alter_some-requires-clause-decided : goal.alter_some-requires-clause-decided
-alter_some-requires-clause-decided g c = λ w. set_or_clear (has_output w)
+alter_some-requires-clause-decided g c = λ w h. set_or_clear (has_output w)

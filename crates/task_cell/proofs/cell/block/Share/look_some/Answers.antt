@@ -17,4 +17,4 @@ pub returns-clause-ended : goal.returns-clause-ended
 returns-clause-ended g c = let e = c.alter_some.ensures in tried_ended _ _ c.alter_some.result c.args.party.now c.alter_some.new.party e.changed e.ended
 
 pub alter_some-requires-clause-decided : goal.alter_some-requires-clause-decided
-alter_some-requires-clause-decided g c = λ w. set_or_clear (has_output w)
+alter_some-requires-clause-decided g c = λ w h. set_or_clear (has_output w)

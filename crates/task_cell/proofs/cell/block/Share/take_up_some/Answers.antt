@@ -16,4 +16,4 @@ pub returns-in-Ended-clause-path : goal.returns-in-Ended-clause-path
 returns-in-Ended-clause-path g c = found_closed _ _ c.args.party.now c.change_some.new.party c.requires.party c.change_some.ensures.cell c.in-Ended.ensures.tried
 
 pub returns-in-Again-clause-missed : goal.returns-in-Again-clause-missed
-returns-in-Again-clause-missed g c = decided c.args.self.now.block.key.limit to_start_run c.in-Again.field-0 (λ w. clear_or_set w.closed) c.in-Again.ensures.missed
+returns-in-Again-clause-missed g c = decided c.args.self.now.block.key.limit to_start_run c.in-Again.field-0 (λ w h. clear_or_set w.closed) c.in-Again.ensures.missed

@@ -1,6 +1,7 @@
+use Rattle.std.proofs.Common.{arith}
 use Rattle.task_cell.proofs.Vocabulary.{refl, ◌∙◌, None, to_wake}
-use Rattle.task_cell.proofs.Attempts.{bring_still, changed_after, ended_after, may_still}
-use Rattle.task_cell.proofs.WakerMoves.{lent_stands, may_wake, wake_made, wakes_over}
+use Rattle.task_cell.proofs.Attempts.{bring_still, changed_after, decided, ended_after, may_still}
+use Rattle.task_cell.proofs.WakerMoves.{lent_stands, may_wake, wake_decides, wake_made, wakes_over}
 use Rattle.task_cell.proofs.cell.block.Share.wake_more.Goals as goal
 
 pub attempt_some-requires-clause-allowed : goal.attempt_some-requires-clause-allowed
@@ -19,3 +20,7 @@ woken-requires-clause-path g c = let s = c.requires.party in
 pub returns-in-Ended-clause-nothing : goal.returns-in-Ended-clause-nothing
 returns-in-Ended-clause-nothing g c = let s = c.requires.party in
     wake_made _ _ s.0 c.attempt_some.new.party _ None s.1 refl (wakes_over _ _ s.0 c.attempt_some.new.party (lent_stands _ _ s.0 s.1) (c.in-Ended.ensures.seat.0 ∙ s.2.cell) (ended_after _ _ to_wake c.args.word _ s.0.seat.me _ _ refl s.2.seen c.in-Ended.ensures.tried))
+
+pub returns-in-Again-clause-missed : goal.returns-in-Again-clause-missed
+returns-in-Again-clause-missed g c = let s = c.requires.party in let e = c.in-Again.ensures in let l = decided _ to_wake _ (wake_decides _) e.looked in let h = c.requires.missed in
+    (e.seat.0 ∙ (s.2.cell ∙ s.1.0), omega (arith, l, h))

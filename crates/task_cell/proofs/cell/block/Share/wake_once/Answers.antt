@@ -1,6 +1,6 @@
 use Rattle.task_cell.proofs.Vocabulary.{refl, ◌∙◌, to_wake}
-use Rattle.task_cell.proofs.Attempts.{bring_still, changed_after, ended_after, may_still, seeing_both}
-use Rattle.task_cell.proofs.WakerMoves.{lent_stands, may_wake, wakes_over}
+use Rattle.task_cell.proofs.Attempts.{bring_still, changed_after, decided, ended_after, may_still, misses_more, seeing_both}
+use Rattle.task_cell.proofs.WakerMoves.{lent_stands, may_wake, wake_decides, wakes_over}
 use Rattle.task_cell.proofs.cell.block.Share.wake_once.Goals as goal
 
 pub try_once-requires-clause-allowed : goal.try_once-requires-clause-allowed
@@ -23,3 +23,7 @@ returns-in-Ended-clause-path g c = let s = c.in-Ok.ensures.looks in
 pub returns-in-Again-clause-again : goal.returns-in-Again-clause-again
 returns-in-Again-clause-again g c = let s = c.in-Ok.ensures.looks in let e = c.in-Again.ensures in
     (s.0, s.1, record { cell = e.seat.0 ∙ s.2.cell; number = e.seat.1 ∙ s.2.number; room = e.tried.0; seen = seeing_both c.in-Ok.looked.1 _ s.0.seat.me _ _ s.2.seen e.tried.1 })
+
+pub returns-in-Again-clause-missed : goal.returns-in-Again-clause-missed
+returns-in-Again-clause-missed g c = let s = c.in-Ok.ensures.looks in let e = c.in-Again.ensures in let w = c.in-Ok.looked.1 in
+    misses_more 0 w _ s.0.seat.me c.in-Ok.looked.0.seat.me c.try_once.new.party.seat.me s.2.seen e.again.0 (decided _ to_wake _ (wake_decides _) e.again.1) c.in-Ok.ensures.seen
