@@ -2,6 +2,7 @@ use Rattle.std.proofs.Common.{arith}
 use Rattle.task_cell.proofs.Attempts.{decided}
 use Rattle.task_cell.proofs.Vocabulary.{ap, ◌∙◌, refl, None, Some, [], parts_newest}
 use Rattle.task_steps.specs.Standing.{as_lent}
+use Rattle.task_steps.specs.WakerScripts.{to_gain}
 use Rattle.task_cell.proofs.WakerMoves.{fresh_stands, may_gain, beside_waker, gain_decides, gains_waker, gains_nothing, gain_gives, gain_made}
 use Rattle.task_cell.proofs.cell.block.Share.gain_some.Goals as goal
 
@@ -27,5 +28,5 @@ returns-in-Ended-clause-at_limit g c = let p = c.borrow-word.result.1 in let b =
     gain_made {X = Unit {0}} _ _ p c.attempt_some.new.party _ None (b.cell, b.party) refl (gains_nothing _ _ p c.attempt_some.new.party (fresh_stands as_lent _ p b.party) c.in-Ended.ensures.seat.0 c.in-Ended.ensures.tried)
 
 pub returns-in-Again-clause-missed : goal.returns-in-Again-clause-missed
-returns-in-Again-clause-missed g c = let b = c.borrow-word.ensures in let e = c.in-Again.ensures in let l = decided _ to_gain _ (gain_decides _) e.looked in
+returns-in-Again-clause-missed g c = let b = c.borrow-word.ensures in let e = c.in-Again.ensures in let limit = c.args.self.now.block.key.limit in let l = decided limit to_gain c.in-Again.field-0 (gain_decides limit) e.looked in
     (e.seat.0 ∙ b.cell, omega (arith, l))

@@ -22,5 +22,5 @@ returns-in-Ended-clause-nothing g c = let s = c.requires.party in
     wake_made _ _ s.0 c.attempt_some.new.party _ None s.1 refl (wakes_over _ _ s.0 c.attempt_some.new.party (lent_stands _ _ s.0 s.1) (c.in-Ended.ensures.seat.0 ∙ s.2.cell) (ended_after _ _ to_wake c.args.word _ s.0.seat.me _ _ refl s.2.seen c.in-Ended.ensures.tried))
 
 pub returns-in-Again-clause-missed : goal.returns-in-Again-clause-missed
-returns-in-Again-clause-missed g c = let s = c.requires.party in let e = c.in-Again.ensures in let l = decided _ to_wake _ (wake_decides _) e.looked in let h = c.requires.missed in
+returns-in-Again-clause-missed g c = let s = c.requires.party in let e = c.in-Again.ensures in let limit = c.args.self.now.block.key.limit in let l = decided limit to_wake c.in-Again.field-0 (wake_decides limit) e.looked in let h = c.requires.missed in
     (e.seat.0 ∙ (s.2.cell ∙ s.1.0), omega (arith, l, h))

@@ -25,5 +25,5 @@ returns-in-Again-clause-again g c = let s = c.in-Ok.ensures.looks in let e = c.i
     (s.0, s.1, record { cell = e.seat.0 ∙ s.2.cell; number = e.seat.1 ∙ s.2.number; room = e.tried.0; seen = seeing_both c.in-Ok.looked.1 _ s.0.seat.me _ _ s.2.seen e.tried.1 })
 
 pub returns-in-Again-clause-missed : goal.returns-in-Again-clause-missed
-returns-in-Again-clause-missed g c = let s = c.in-Ok.ensures.looks in let e = c.in-Again.ensures in let w = c.in-Ok.looked.1 in
-    misses_more 0 w _ s.0.seat.me c.in-Ok.looked.0.seat.me c.try_once.new.party.seat.me s.2.seen e.again.0 (decided _ to_wake _ (wake_decides _) e.again.1) c.in-Ok.ensures.seen
+returns-in-Again-clause-missed g c = let s = c.in-Ok.ensures.looks in let e = c.in-Again.ensures in let limit = c.args.self.now.block.key.limit in
+    misses_more 0 c.in-Ok.looked.1 c.in-Again.found s.0.seat.me c.in-Ok.looked.0.seat.me c.try_once.new.party.seat.me s.2.seen e.again.0 (decided limit to_wake c.in-Again.found (wake_decides limit) e.again.1) c.in-Ok.ensures.seen
