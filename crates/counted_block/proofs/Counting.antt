@@ -4,7 +4,7 @@ use mathlib.Core.Bool.{not}
 use seplogic.Ra.Ura.{Ura}
 use base.Fraction.{full_share}
 use base.Stored.{Coded}
-use base.Logic.{SProp, ent, sep, wand, guard, never, never_e, via}
+use base.Logic.{SProp, ent, sep, guard, never, never_e, via}
 use base.Fml.{Share, Fml, ftrue, fsep, fex, flft, fdead}
 use types.Logic.{Logic, sem}
 use types.Kit.{‵, ◌⊛◌, given, ◌$◌, ◌∵◌, !, qed, by, move, keep, drop, split, fsplit, fsplit3, fjoin, fjoin3, fpick, fpack, learn, check, frame, assume, use1, use2, rewrite, done}

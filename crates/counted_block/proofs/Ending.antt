@@ -7,7 +7,7 @@ use seplogic.Ra.Ura.{Ura}
 use base.Fraction.{full_share}
 use base.Share.{three_quarters}
 use base.Stored.{Coded}
-use base.Logic.{SProp, ent, sep, wand, ex, all, guard, guard_i, upd, upd_i}
+use base.Logic.{SProp, ent, sep, all, guard, guard_i, upd_i}
 use base.Fml.{Fml, ftrue, fsep, flft, fdead}
 use contract.Monad.{fact_i, fact_use}
 use types.Logic.{Logic, sem}

@@ -9,7 +9,7 @@ use base.Fraction.{full_share}
 use base.Share.{three_quarters}
 use base.Stored.{Coded}
 use base.Logic.{SProp, wand, ex, all, guard, upd, all_e, upd_i, via, mono_r}
-use base.Fml.{Share, Fml, ftrue, fsep, fex, flft, fdead}
+use base.Fml.{Share, Fml, ftrue, fsep, fex, fdead}
 use types.Logic.{Logic}
 use types.Kit.{‵, raw, ◌⊛◌, some, given, ◌$◌, ◌∵◌, !, qed, by, move, drop, split, fsplit, fsplit3, fjoin, fjoin3, fpick, fpack, pick, learn, show, check, frame, assume, suffices}
 use types.Kit.{settle, done, use1, use2, rewrite}

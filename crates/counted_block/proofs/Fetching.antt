@@ -6,7 +6,7 @@ use Rattle.counted_block.proofs.Names.{look_at, through, sets, lands_last, env, 
 use Rattle.counted_block.proofs.Names.{looks, shuts, opens, closes, unhide, Is, shows, cell_at, hidden_shr, param, bounded, RefOf, shr_vals, shr_Tells, mut_vals, mut_Tells, shr_bor-open}
 use Rattle.counted_block.proofs.Names.{obor_close, Stays, stay_dropped, stay_ref, walk_of, Goes-dropped, Goes-ref, after, proved, leaves, fm, seq_cst, found, finds, u64, uint_vals}
 use Rattle.counted_block.proofs.Names.{uint_Tells, Me, step, Allows, Place, BlockId, seat_owns, block, Same, content, share_shown, tokens, ShareData, share_opens, kept_inv, eight}
-use Rattle.counted_block.proofs.Names.{share_lent, pair_at, ent, sep, ptr_val, lone, halve, of_shares, gripped}
+use Rattle.counted_block.proofs.Names.{share_lent, pair_at, ent, sep, ptr_val, lone, halve, of_shares}
 use seplogic.Ra.Ura.{Ura}
 use types.Logic.{Logic}
 use Rattle.std.proofs.Common.{◌<◌}

@@ -8,7 +8,7 @@ use base.Fml.{Lft, Share, Fml, ftrue, fsep, fex, fseps, fwand, fupd, fdead, fbor
 use contract.BorrowLft.{meet_⊑_left}
 use ghost.Rules.{span, thinned}
 use types.Logic.{Logic, sem, lfts}
-use types.Kit.{‵, raw, ◌⊛◌, some, later, ◌$◌, ◌∵◌, !, qed, by, move, keep, drop, use1, use2, split, split3, frame, fsplit, fsplit3, fjoin, fjoin3, fpick, fpack, pick, assume, now}
+use types.Kit.{‵, raw, ◌⊛◌, some, later, ◌$◌, ◌∵◌, !, qed, by, move, keep, drop, use1, use2, split, split3, fsplit, fsplit3, fjoin, fjoin3, fpick, fpack, pick, assume, now}
 use types.Kit.{suffices, await, updating, done}
 use types.Tokens.{bor_open, obor_alter, obor_close, bor_fracture, one_token}
 use types.RcWeak.{part, part_in}

@@ -57,17 +57,6 @@ impl<S, W, V, K, P: BlockRule<S, W, V, K>, T, A: Allocator> Share<S, W, V, K, P,
         }
     }
 
-    /// Writes `new` into the word. Answers the word as it was.
-    pub fn swap<M: BlockPlay<Place<S, W>, V, K>>(&self, seat: &mut Seat<S, W, V>, new: u64) -> u64
-        requires block { seat.old.block ≡ self.now.id }
-        requires allowed { Allows (P.holds self.now.key) 2 seat.old.id seat.old.me 0 (λ _. new) (M.then self.now.key (step 2 0 new 0 none) seat.old.me) }
-        requires shares { Same (P.holds self.now.key) P.out seat.old.id seat.old.me.0 (λ _. new) }
-        ensures seat { (seat.new.block ≡ seat.old.block) × (seat.new.id ≡ seat.old.id) × M.then self.now.key (step 2 0 new 0 none) seat.old.me result seat.new.me }
-        ensures live { 0 < P.out result }
-    {
-        unsafe { raw::swap::<Brand>(&raw const (*self.at).word, new, SeqCst) }
-    }
-
     /// Keeps the bits of `k` in the word. Answers the word as it was.
     pub fn fetch_and<M: BlockPlay<Place<S, W>, V, K>>(
         &self,

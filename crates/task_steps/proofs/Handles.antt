@@ -4,9 +4,9 @@ use Rattle.std.specs.Prelude.{nat_lt, nat_eq, if◌then◌else◌}
 use Rattle.std.proofs.lemmas.Bool.Decides.{nat_tests}
 use Rattle.task_core.specs.Rows.{found}
 use Rattle.task_steps.proofs.Vocabulary.{WakeRunning, WakeIdle, CancelIdle, EndCall, Detach, DetachLast, DetachOrphan, GiveUpReference, GiveUpLastReference}
-use Rattle.task_steps.proofs.Vocabulary.{State, bit, is_open, Event, Answer, Rest, Waker, Task, At, GivingUp, Detacher, OrphanHolder, Pending, Slots, is_held, Machine, census, Census, Holds, Deed, Member}
+use Rattle.task_steps.proofs.Vocabulary.{State, bit, is_open, Event, Answer, Rest, Waker, Task, At, GivingUp, Detacher, Pending, Slots, Machine, census, Census, Holds, Deed, Member}
 use Rattle.task_steps.specs.Values.{Values}
-use Rattle.task_steps.specs.WakerScripts.{waking_task, brings_runnable, to_gain, to_wake, others_left, dropped_by, dropping_as, dropping_waker, ends_waker, closing_orphan}
+use Rattle.task_steps.specs.WakerScripts.{waking_task, brings_runnable, to_gain, to_wake, others_left, dropped_by, dropping_as, dropping_waker, ends_waker}
 use Rattle.task_steps.specs.declared.waker.Dropped.{Dropped}
 use Rattle.task_steps.specs.declared.waker.Dropped.TheVariants.{Shared as DroppedShared, Last as DroppedLast, Orphaned as DroppedOrphan}
 use Rattle.task_steps.specs.TaskScripts.{closing, brings_share, detaching, ends_task, ends_last, to_cancel, to_detach, giving_task_up}
@@ -19,7 +19,7 @@ use Rattle.task_steps.specs.declared.waker.Woken.{Woken}
 use Rattle.task_steps.specs.declared.waker.Woken.TheVariants.{Scheduled, Running, Idle}
 use Rattle.task_steps.specs.declared.run.PendingEnd.{PendingEnd}
 use Rattle.task_steps.specs.declared.run.PendingEnd.TheVariants.{Rescheduled, Idle as EndsIdle, Orphaned}
-use Rattle.task_steps.specs.Attempt.{word_after, acts_on}
+use Rattle.task_steps.specs.Attempt.{word_after}
 use Rattle.task_steps.specs.Shares.{has_references}
 use Rattle.task_steps.proofs.Facts.{counted}
 use Rattle.task_steps.proofs.Advance.{Finds}

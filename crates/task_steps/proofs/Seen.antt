@@ -1,16 +1,14 @@
 -- What a party has seen of the task's end is so from then on.
-use Rattle.std.proofs.Common.{◌≡◌, ℕ, zero, suc, ◌+◌, ◌≤◌, eqb, Bool, true, false, not, ◌&&◌, ◌||◌, Option, Some, None, List, [], ◌∷◌, ◌++◌, sym, refl, ap, ◌∙◌, ⊎_elim, ◌⊎◌, inl, inr, cond, arith}
+use Rattle.std.proofs.Common.{◌≡◌, ℕ, zero, suc, ◌≤◌, eqb, Bool, true, false, not, ◌&&◌, ◌||◌, Option, Some, None, List, [], ◌∷◌, ◌++◌, sym, refl, ap, ◌∙◌, ⊎_elim, ◌⊎◌, inl, inr, cond, arith}
 use Rattle.std.specs.Prelude.{slice_get}
 use Rattle.std.proofs.lemmas.Bool.Decides.{nat_tests}
 use mathlib.Core.Option.{some}
 use lib.ListN.{get_elem?}
-use Rattle.task_steps.proofs.Vocabulary.{State, is_open, Position, At, Runnable, Waker, Lent, OrphanHolder, Emptier, Answer, Act, GainReference, DiscardOpen, CloseOrphan, EmptySlots, is_held, when, found, written, Slots, Scene, Outcome, outcome_at, rule, Event, Machine, Step, scene, moves, after, step}
+use Rattle.task_steps.proofs.Vocabulary.{State, is_open, Position, OrphanHolder, Act, DiscardOpen, CloseOrphan, found, written, Slots, Scene, Outcome, outcome_at, rule, Event, Machine, Step, scene, moves, after, step}
 use Rattle.task_steps.proofs.Vocabulary.{Census, census, Holds, Invariant, rule_word, Deed}
 use Rattle.task_steps.specs.PollScripts.{has_ended}
 use Rattle.task_steps.specs.Rule.{Entry, Reaches, is_private, noted_if, deeds_of, DidLast}
 use Rattle.task_steps.specs.Steps.{leaves_such, saw, saw_over, saw_closed, saw_ended}
-use Rattle.std.specs.Prelude.{nat_eq}
-use Rattle.task_steps.specs.Shares.{is_emptying, has_emptied}
 use Rattle.task_steps.proofs.Written.{found_is}
 use Rattle.task_steps.proofs.Facts.{law, counted}
 use Rattle.task_steps.proofs.Explains.{next_machine}

@@ -4,7 +4,6 @@ use Rattle.std.specs.Prelude.{if◌then◌else◌}
 use native.Mathlib.Decide.{ℕ_discrete}
 use mathlib.Core.Logic.{dite}
 use prog.Atomic.{either}
-use lib.ListN.{get_elem?}
 use Rattle.atomic_table.specs.Table.{State as Board}
 use Rattle.counted_block.specs.Blocks.{word_of}
 use Rattle.counted_block.specs.Counts.{Same, Less}

@@ -95,20 +95,6 @@ pub fn take_work<F: Yields, A, V, B: Allocator>(
     Content { slot }
 }
 
-/// Puts the future into the place of the work, which the seat has in front, and answers what lay there.
-pub fn put_future<F: Yields, A, V, B: Allocator>(
-    block: &Block<F, A, V, B>,
-    seat: &mut TaskSeat<F, Kept<F>, A>,
-    future: Held<F>,
-) -> Content<F, Kept<F>>
-    requires { (seat.old.block ≡ block.now.id) × ((old : Slot F _) × (seat.old.me.1 ≡ work_first old (rest seat.old.me.1))) }
-    ensures { (seat.new.block ≡ seat.old.block) × (seat.new.id ≡ seat.old.id) × (seat.old.me.1 ≡ work_first result.slot (rest seat.old.me.1)) × (seat.new.me ≡ (seat.old.me.0, work_first (Slot.Future future.value) (rest seat.old.me.1))) }
-{
-    let Held { value } = future;
-    let slot = block.swap_first(seat, Slot::Future(value));
-    Content { slot }
-}
-
 /// Puts the output into the place of the work, which the seat has in front, and answers what lay there.
 pub fn put_output<F: Yields, A, V, B: Allocator>(
     block: &Block<F, A, V, B>,

@@ -6,7 +6,7 @@ use Rattle.counted_block.proofs.Names.{first, blocks, exec, Calls-last, returns,
 use Rattle.counted_block.proofs.Names.{look_in, tables, fact, fact_i, RattleType, owns, types_at, plain, Ptr, block_ptr, nothing, peeks, looks, shuts, opens, closes, unhide, shows, cell_at}
 use Rattle.counted_block.proofs.Names.{hidden_shr, param, bounded, RefOf, shr_vals, shr_Tells, mut_vals, mut_Tells, shr_bor-open, obor_close, Stays, stay_dropped, stay_ref, walk_of}
 use Rattle.counted_block.proofs.Names.{Goes-dropped, Goes-ref, after, proved, leaves, fm, found, finds, u64, uint_vals, uint_Tells, either, eqb, exchanges, Me, step, Allows, Place, BlockId}
-use Rattle.counted_block.proofs.Names.{place, parts_if, seat_owns, block, More, content, kept_of, share_shown, tokens, ptr_and_marker, ShareData, share_opens, kept_shows, Types, eight}
+use Rattle.counted_block.proofs.Names.{place, seat_owns, block, More, content, kept_of, share_shown, tokens, ptr_and_marker, ShareData, share_opens, kept_shows, Types, eight}
 use Rattle.counted_block.proofs.Names.{share_lent, PairData, pair_at, pair_made, halve, of_shares, ◌<◌, false}
 use mathlib.Core.Option as maybe
 use Rattle.counted_block.specs.contracts.share.Share as share

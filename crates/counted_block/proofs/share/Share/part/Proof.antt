@@ -5,7 +5,7 @@ use Rattle.counted_block.proofs.Names.{fsplit3, fjoin, fjoin3, fpick, fpack, lea
 use Rattle.counted_block.proofs.Names.{blocks, exec, Calls-last, returns, enter, alloc_all, pass_all, free_all, look_at, get, get_in, through, sets, is, lands_last, env, agg, sub, whole}
 use Rattle.counted_block.proofs.Names.{tables, fact, fact_i, yes, no, RattleType, Valss, owns, types_at, plain, Ptr, block_ptr, ptr_val, nothing, opens, closes, u64, param, bounded}
 use Rattle.counted_block.proofs.Names.{mut_vals, mut_Tells, uint_vals, uint_Tells, Stays, stay_dropped, stay_ref, walk_of, Goes-dropped, Goes-ref, after, proved, leaves, fm, seq_cst, found}
-use Rattle.counted_block.proofs.Names.{finds, subs, not, Me, step, Allows, Place, BlockId, place, parts_if, seat_owns, block, Less, content, kept_of, tokens, ptr_and_marker, pair_typed}
+use Rattle.counted_block.proofs.Names.{finds, subs, not, Me, step, Allows, Place, BlockId, place, seat_owns, block, Less, content, kept_of, tokens, ptr_and_marker, pair_typed}
 use Rattle.counted_block.proofs.Names.{in_place, kept_shows, Types, eight, PairData, pair_told, pair_made, ◌<◌}
 use mathlib.Core.Option as maybe
 use Rattle.counted_block.specs.contracts.share.Share as share

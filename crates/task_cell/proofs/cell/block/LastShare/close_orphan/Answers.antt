@@ -1,4 +1,4 @@
-use Rattle.task_cell.proofs.Vocabulary.{[], refl, OrphanHolder, closes_orphan, state_of}
+use Rattle.task_cell.proofs.Vocabulary.{[], OrphanHolder, closes_orphan, state_of}
 use Rattle.task_cell.proofs.Steps.{may_act}
 use Rattle.task_cell.proofs.WakerMoves as moves
 use Rattle.task_cell.proofs.cell.block.LastShare.close_orphan.Goals as goal
