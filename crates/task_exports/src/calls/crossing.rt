@@ -46,7 +46,7 @@ pub fn again(address: Address, left: Left) -> Bits
 }
 
 /// The record that an export has brought, as what is left of a handle.
-pub fn second(brought: Brought) -> Left
+pub fn one(brought: Brought) -> Left
     requires { is_some brought.hand ≡ true }
     ensures { brought.hand ≡ Some result.hand }
 {
@@ -102,7 +102,7 @@ pub fn fetch_if(h: &mut Handle, brought: Brought, there: bool) -> Option<Hand>
     ensures brought { result ≡ brought.hand }
 {
     if there {
-        Some(fetch(h, second(brought)))
+        Some(fetch(h, one(brought)))
     } else {
         none(brought);
         None

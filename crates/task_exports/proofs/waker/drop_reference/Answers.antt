@@ -41,4 +41,4 @@ returns-in-Orphaned-clause-path c = let x = subst (CellDrops c.args.hand.party c
     (did_then _ _ _ (row OrphanTask x.0 ∷ row CloseOrphan y.0 ∷ []) (act HandOver ∷ act EndCall ∷ []) as_deliverer as_ended [] [] (orphan_closed _ _ _ x y) c.hand_on-hand.ensures.ended)
 
 pub returns-in-Orphaned-clause-record : goal.returns-in-Orphaned-clause-record
-returns-in-Orphaned-clause-record c = (c.hand_on-hand.ensures.record.0, c.hand_on-hand.ensures.record.1 ∙ (c.share-owned.ensures.0 ∙ (c.drop_reference-found.ensures.share.cell.0 ∙ c.share-share.ensures.0)))
+returns-in-Orphaned-clause-record c = (c.hand_on-hand.ensures.record.0, c.hand_on-hand.ensures.record.1 ∙ (c.close_orphan-owned.ensures.share.0 ∙ (c.last.ensures.0 ∙ (c.drop_reference-found.ensures.share.cell.0 ∙ c.share-share.ensures.0))))

@@ -4,4 +4,4 @@ use Rattle.task_exports.specs.Hands.{SameBits}
 use Rattle.task_exports.proofs.calls.crossing.fetch_if.Goals as goal
 
 pub fetch-requires-clause-bits : goal.fetch-requires-clause-bits
-fetch-requires-clause-bits c = subst (λ o. IfSome o (λ k. SameBits c.args.h.now.hand k)) c.second.ensures c.requires.bits
+fetch-requires-clause-bits c = subst (λ o. IfSome o (λ k. SameBits c.args.h.now.hand k)) c.one.ensures c.requires.bits
