@@ -1,4 +1,4 @@
-use Rattle.std.proofs.Common.{◌≡◌, [], ◌∷◌, ap, sym, subst, ◌∙◌}
+use Rattle.std.proofs.Common.{[], ◌∷◌, ap, sym, subst, ◌∙◌}
 use Rattle.task_core.specs.declared.acts.Act.TheVariants.{EndCall, HandOver}
 use Rattle.task_cell.proofs.Moved.{stands}
 use Rattle.task_cell.specs.Calls.{Did, Stands}
