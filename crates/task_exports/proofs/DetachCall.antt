@@ -7,14 +7,9 @@ use Rattle.task_cell.specs.WakerPaths.{WakerDropPath, leaves_none as waker_none,
 use Rattle.task_exports.proofs.EndsCall.{IsEmptier}
 use Rattle.task_exports.proofs.Numbers.{differs}
 use Rattle.task_exports.specs.Answers.{DropsWaker, empties, last_waker, orphan_waker, shared}
-<<<<<<< ours
 use Rattle.task_exports.specs.CallPaths.{hands_on}
-use Rattle.task_exports.specs.Hands.{IsGone, IsLive}
+use Rattle.task_exports.specs.Hands.{IsGone, IsLast, IsLive}
 use Rattle.task_exports.specs.Parties.{CellParty, party_in}
-=======
-use Rattle.task_exports.specs.Hands.{IsGone, IsLive, IsLast}
-use Rattle.task_exports.specs.Parties.{CellParty}
->>>>>>> theirs
 use Rattle.task_exports.specs.declared.hand.Hand.{Hand}
 use Rattle.task_laws.specs.declared.positions.Answer.TheVariants.{Nothing}
 use Rattle.task_laws.specs.declared.positions.Position.TheVariants.{Emptier}

@@ -13,11 +13,7 @@ use Rattle.task_cell.specs.declared.cell.Party.{Party}
 use Rattle.task_cell.specs.declared.cell.block.MaybeShare.{MaybeShare}
 use Rattle.task_cell.specs.declared.cell.block.Share.{Share}
 use Rattle.task_exports.specs.Hands.{IsGone}
-<<<<<<< ours
-use Rattle.task_exports.specs.TaskAnswers.{Becomes, Detaches, EndsDetach, is_last, is_shared, is_unclaimed, leaves_none, leaves_others}
-=======
-use Rattle.task_exports.specs.TaskAnswers.{Becomes, BecomesLast, Detaches, EndsDetach, is_last, is_orphaned, is_shared, is_unclaimed, leaves_none, leaves_others}
->>>>>>> theirs
+use Rattle.task_exports.specs.TaskAnswers.{Becomes, BecomesLast, Detaches, EndsDetach, is_last, is_shared, is_unclaimed, leaves_none, leaves_others}
 use Rattle.task_exports.specs.declared.hand.Hand.{Hand}
 use Rattle.task_laws.specs.declared.positions.Position.{Position}
 use Rattle.task_steps.specs.Standing.{as_runnable}
@@ -41,7 +37,7 @@ module _ {R F Q M A B O T : Type 0} {G : Ghosts F O} where
   abbrev HasLast : MaybeShare R F Q M A B O G → Party F T A → Type 0
   HasLast maybe q = ((maybe.maybe.there ≡ false) × (maybe.maybe.last ≡ true)) × (q.seat.block ≡ maybe.maybe.id) × (limit_of q ≡ maybe.maybe.key.limit)
 
-  -- .. or the last share is
+  -- the last share is there after a step that has left it, and its party is one of its cell
   pub last_after : (share : Share R F Q M A B O G) (maybe : MaybeShare R F Q M A B O G) (b last : Bool) (p q : Party F T A) (path : List Deed) (at : Position) (held : List (ℕ × TaskPlace F T A)) → IsOf share p → limit_of p ≡ limit_in share → LeavesBy share maybe b last → b ≡ false → last ≡ true → DidWith path at held p q
       → HasLast maybe q
   last_after share maybe b last p q path at held cell limit l is was g = ((l.is_there ∙ is, l.is_last ∙ was), g.cell ∙ (cell ∙ sym l.cell.0), limit_is p q path at held g ∙ (limit ∙ sym (ap (λ k. k.limit) l.terms)))

@@ -35,13 +35,8 @@ module _ (before : List Deed) (x k : Hand) where
   given_over _ (answers.others w f gone d) e = (gone, stands _ _ _ _ _ d, (row GiveUpReference w ∷ [], paths.leaves_others w f, d))
   given_over _ (answers.none_left w answer y f live d) e = differs 9 1 refl refl e
 
-<<<<<<< ours
   -- by the answer: it was the last handle
-  pub given_last : (n : ℕ) → GivesBack before x k n → n ≡ 9 → IsLive k × IsEmptier false k.party × ((q : CellParty) → Did (empties false) as_ended k.party q → Releases before x.party q)
-=======
-  -- .. it was the last handle
   pub given_last : (n : ℕ) → GivesBack before x k n → n ≡ 9 → IsLast k × IsEmptier false k.party × ((q : CellParty) → Did (empties false) as_ended k.party q → Releases before x.party q)
->>>>>>> theirs
   given_last _ (answers.others w f gone d) e = differs 1 9 refl refl e
   given_last _ (answers.none_left w answer y f live d) e = (
     live,
@@ -71,13 +66,8 @@ module _ (Woken : Type 0) where
     left_over _ (answers.takes w hand y is f live h d) e = differs 7 1 refl refl e
     left_over _ (answers.gives n r np g) e = let z = given_over (before ++ n) x k r g e in (z.0, z.1, passes_on due before n x.party k.party np z.2)
 
-<<<<<<< ours
     -- by the answer: the reference was the last handle
-    pub left_last : (n : ℕ) → GoesOn OfDrop due before x k n → n ≡ 9 → IsLive k × IsEmptier false k.party × ((q : CellParty) → Did (empties false) as_ended k.party q → Leaves due before x.party q)
-=======
-    -- .. it was the last handle
     pub left_last : (n : ℕ) → GoesOn OfDrop due before x k n → n ≡ 9 → IsLast k × IsEmptier false k.party × ((q : CellParty) → Did (empties false) as_ended k.party q → Leaves due before x.party q)
->>>>>>> theirs
     left_last _ (answers.takes w hand y is f live h d) e = differs 7 9 refl refl e
     left_last _ (answers.gives n r np g) e = let z = given_last (before ++ n) x k r g e in (z.0, z.1, λ q d. passes_on due before n x.party q np (z.2 q d))
 
@@ -102,13 +92,8 @@ module _ (Woken : Type 0) where
     taken_over _ _ (answers.wakes_first v i live d) e = differs 14 1 refl refl e
     taken_over _ _ (answers.without_awaiter v r g) e = let z = given_over (row EndNotify v ∷ []) x k r g e in (z.0, z.1, (_, wakes_and_leaves v false [] z.2.0 paths.nobody z.2.1, z.2.2))
 
-<<<<<<< ours
     -- by the answer: nothing lay there, and it was the last handle
-    pub taken_last : (awaiter : Option ℕ) (n : ℕ) → Discarded x k awaiter n → n ≡ 9 → IsLive k × IsEmptier false k.party × ((q : CellParty) → Did (empties false) as_ended k.party q → Takes x.party q)
-=======
-    -- .. and it was the last handle
     pub taken_last : (awaiter : Option ℕ) (n : ℕ) → Discarded x k awaiter n → n ≡ 9 → IsLast k × IsEmptier false k.party × ((q : CellParty) → Did (empties false) as_ended k.party q → Takes x.party q)
->>>>>>> theirs
     taken_last _ _ (answers.wakes_first v i live d) e = differs 14 9 refl refl e
     taken_last _ _ (answers.without_awaiter v r g) e = let z = given_last (row EndNotify v ∷ []) x k r g e in (z.0, z.1, λ q d. let g : Releases (row EndNotify v ∷ []) x.party q = z.2 q d in (_, wakes_and_leaves v false [] g.0 paths.nobody g.1, g.2))
 

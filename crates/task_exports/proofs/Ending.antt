@@ -1,14 +1,20 @@
 -- What the awaiter that was taken out of its place comes to.
 use Rattle.task_cell.specs.declared.cell.Party.{Party}
-use Rattle.task_cell.proofs.Vocabulary.{◌≡◌, ℕ, true, false, List, [], ◌∷◌, Option, Some, None, is_some, State, Answer, Nothing, Ran, Ended, AwaiterInHand, Emptier, GivingUp, CallEnding}
+use Rattle.task_cell.proofs.Vocabulary.{◌≡◌, ℕ, subst, sym, true, false, List, [], ◌∷◌, Option, Some, None, is_some, State, Answer, Nothing, Ran, Ended, AwaiterInHand, Emptier, GivingUp, CallEnding}
 use Rattle.task_cell.proofs.Vocabulary.{GiveUpReference, GiveUpLastReference, EndCall, EndNotify, WakeAwaiter, OfRun, OfDrop, Deed, DidWith, Did, Stands, row, act, rest_of, position, places_of, way_of, after_taking, after_waking, awaiter_first}
 use Rattle.task_cell.proofs.Moved as moved
 use Rattle.task_exports.specs.Hands.{IsLive, IsLast, IsGone}
-use Rattle.task_exports.specs.Answers.{GivesBack, Finishes, over, wakes, last, last_wakes, Discarded}
+use Rattle.std.specs.Prelude.{Bool, if◌then◌else◌}
+use Rattle.task_exports.specs.Answers.{GivesBack, Finishes, over, wakes, last, last_wakes, Discarded, TellsEnd, cell_ended, cell_kept}
 use Rattle.task_exports.specs.Answers as answers
 use Rattle.task_exports.specs.declared.hand.Hand.{Hand}
 use Rattle.task_exports.proofs.Given.{Last, Others, and_ends, woken_at}
 use Rattle.task_exports.proofs.Goes.{gives_on}
+
+-- the number that tells whether the cell has ended
+pub tells_end : (b : Bool) (n : ℕ) → n ≡ (if b then 2 else 12) → TellsEnd n
+tells_end true n e = subst (λ m. TellsEnd m) (sym e) cell_ended
+tells_end false n e = subst (λ m. TellsEnd m) (sym e) cell_kept
 
 -- in the drop of a Runnable: the awaiter is woken first, or there is none
 pub taken_wakes : (hand : Option ℕ) (x k : Hand) → is_some hand ≡ true → (v : State) → IsLive k → Did (row EndNotify v ∷ []) (after_taking hand OfDrop) x.party k.party → (awaiter : Option ℕ) × Discarded x k awaiter 14

@@ -25,6 +25,7 @@ pub mod EndsCall
 pub mod PollCall
 pub mod DetachCall
 pub mod WakeCall
+pub mod HoldCall
 pub mod RunCall
 pub mod DiscardCall
 pub mod TaskCall

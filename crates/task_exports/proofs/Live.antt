@@ -1,6 +1,7 @@
 -- A share that goes on with its party: the cell and the limit stay the same.
 use Rattle.task_cell.specs.declared.cell.Party.{Party}
 use Rattle.task_cell.proofs.Vocabulary.{◌≡◌, ℕ, Bool, true, false, List, [], ◌∷◌, ◌∙◌, sym, ap, Position, Deed, limit_of, member, view, after, DidWith, TaskPlace}
+use Rattle.task_steps.specs.Attempts.{HasMissed}
 use Rattle.task_steps.specs.Standing.{as_lent}
 use Rattle.task_core.specs.declared.traits.Yields.{Ghosts}
 use Rattle.task_cell.specs.Belongs.{HasMade, IsSame, Leaves, LeavesBy, cell_of, limit_in}
@@ -33,20 +34,12 @@ module _ {R F Q M A B O T : Type 0} {G : Ghosts F O} where
   pub lives_still : (before later : MaybeShare R F Q M A B O G) (share : Share R F Q M A B O G) (p : Party F T A) → Lives before p → Taken before share → Leaves share later true → Lives later p
   lives_still before later share p live taken leaves = (leaves.is_there, live.1 ∙ sym (leaves.cell.0 ∙ taken.0), live.2 ∙ sym (ap (λ k. k.limit) (leaves.terms ∙ taken.1)))
 
-<<<<<<< ours
-  -- the same where the step has left the share
-  pub lives_left : (before later : MaybeShare R F Q M A B O G) (share : Share R F Q M A B O G) (p q : Party F T A) (path : List Deed) (at : Position) (held : List (ℕ × TaskPlace F T A)) (there : Bool)
-      → Lives before p → Taken before share → Leaves share later there → there ≡ true → DidWith path at held p q → Lives later q
-  lives_left before later share p q path at held there live taken leaves is g = (
-    leaves.is_there ∙ is,
-=======
-  -- .. where the step has left the last share
+  -- the last share lies there, with its party, where the step has left that
   pub lasts_left : (before later : MaybeShare R F Q M A B O G) (share : Share R F Q M A B O G) (p q : Party F T A) (path : List Deed) (at : Position) (held : List (ℕ × TaskPlace F T A)) (last : Bool)
       → Lives before p → Taken before share → LeavesBy share later false last → last ≡ true → DidWith path at held p q
       → ((later.maybe.there ≡ false) × (later.maybe.last ≡ true)) × (q.seat.block ≡ later.maybe.id) × (limit_of q ≡ later.maybe.key.limit)
   lasts_left before later share p q path at held last live taken leaves is g = (
     (leaves.is_there, leaves.is_last ∙ is),
->>>>>>> theirs
     g.cell ∙ (live.1 ∙ sym (leaves.cell.0 ∙ taken.0)),
     moved.limit_is p q path at held g ∙ (live.2 ∙ sym (ap (λ k. k.limit) (leaves.terms ∙ taken.1))),
   )
@@ -63,13 +56,13 @@ module _ {R F Q M A B O T : Type 0} {G : Ghosts F O} where
 
   -- the record of a call by reference, which lies beside a share that is gone
   pub records : (before gone : MaybeShare R F Q M A B O G) (share : Share R F Q M A B O G) (path : List Deed) (p : Party F T A) → Taken before share → Leaves share gone false → HasMade share path p
-<<<<<<< ours
-      → ((gone.maybe.there ≡ false) × (gone.maybe.id ≡ before.maybe.id)) × (p.seat.block ≡ before.maybe.id) × (p.seat.me ≡ (view before.maybe.key.limit (member as_lent (after path []) ∷ []), []))
-  records before gone share path p taken leaves made = ((leaves.is_there, leaves.cell.0 ∙ taken.0), made.0 ∙ taken.0, made.1 ∙ ap (λ k. (view k.limit (member as_lent (after path []) ∷ []), [])) taken.1)
-=======
-      → ((gone.maybe.there ≡ false) × (gone.maybe.last ≡ false)) × (p.seat.block ≡ before.maybe.id) × (p.seat.me ≡ (view before.maybe.key.limit (member as_lent (after path []) ∷ []), []))
-  records before gone share path p taken leaves made = ((leaves.is_there, leaves.is_last), made.0 ∙ taken.0, made.1 ∙ ap (λ k. (view k.limit (member as_lent (after path []) ∷ []), [])) taken.1)
->>>>>>> theirs
+      → (((gone.maybe.there ≡ false) × (gone.maybe.last ≡ false)) × (gone.maybe.id ≡ before.maybe.id)) × (p.seat.block ≡ before.maybe.id) × (p.seat.me ≡ (view before.maybe.key.limit (member as_lent (after path []) ∷ []), []))
+  records before gone share path p taken leaves made = (((leaves.is_there, leaves.is_last), leaves.cell.0 ∙ taken.0), made.0 ∙ taken.0, made.1 ∙ ap (λ k. (view k.limit (member as_lent (after path []) ∷ []), [])) taken.1)
+
+  -- what a call by reference has left of itself that was not made: a share that is gone, of the same cell, and its party
+  pub misses : (before gone : MaybeShare R F Q M A B O G) (share : Share R F Q M A B O G) (tries : ℕ) (p : Party F T A) → Taken before share → Leaves share gone false → (p.seat.block ≡ share.block.id) × HasMissed tries p.seat.me
+      → ((gone.maybe.there ≡ false) × (gone.maybe.last ≡ false)) × ((gone.maybe.id ≡ before.maybe.id) × (gone.maybe.value ≡ before.maybe.value)) × (p.seat.block ≡ before.maybe.id) × HasMissed tries p.seat.me
+  misses before gone share tries p taken leaves missed = ((leaves.is_there, leaves.is_last), (leaves.cell.0 ∙ taken.0, leaves.cell.1 ∙ taken.2), missed.0 ∙ taken.0, missed.1)
 
   -- the same by a share of the same cell, which a step that was not made has handed back
   pub lives_kept : (before later : MaybeShare R F Q M A B O G) (share kept : Share R F Q M A B O G) (p q : Party F T A) (path : List Deed) (at : Position) (held : List (ℕ × TaskPlace F T A))

@@ -17,15 +17,9 @@ use Rattle.task_exports.proofs.EndsCall.{IsEmptier}
 use Rattle.task_exports.proofs.Numbers.{differs, joined}
 use Rattle.task_exports.specs.Answers.{Completed, Finishes, GivesBack, GoesOn, Pends, Starts, empties}
 use Rattle.task_exports.specs.Answers as answers
-<<<<<<< ours
 use Rattle.task_exports.specs.CallPaths.{Done, EndsTaken, ends_taken, hands_on as hands_on_by}
-use Rattle.task_exports.specs.Hands.{IsGone, IsLive}
+use Rattle.task_exports.specs.Hands.{IsGone, IsLast, IsLive}
 use Rattle.task_exports.specs.Parties.{CellParty, party_in}
-=======
-use Rattle.task_exports.specs.CallPaths.{Done, EndsTaken, ends_taken}
-use Rattle.task_exports.specs.Hands.{IsGone, IsLive, IsLast}
-use Rattle.task_exports.specs.Parties.{CellParty}
->>>>>>> theirs
 use Rattle.task_exports.specs.declared.hand.Hand.{Hand}
 use Rattle.task_exports.specs.declared.hand.Record.{Record}
 use Rattle.task_laws.specs.declared.positions.Answer.TheVariants.{Ran}
@@ -104,13 +98,8 @@ module _ (Woken : Type 0) where
     )
     left_over _ (answers.gives n _ np (answers.none_left w answer y f live d)) e = differs 9 1 refl refl e
 
-<<<<<<< ours
     -- by the answer of an end step: it was the last handle
-    pub left_last : (n : ℕ) → GoesOn OfRun due before x k n → n ≡ 9 → IsLive k × IsEmptier false k.party × ((q : CellParty) → Did (empties false) as_ended k.party q → Rests due before x.party q)
-=======
-    -- .. it was the last handle
     pub left_last : (n : ℕ) → GoesOn OfRun due before x k n → n ≡ 9 → IsLast k × IsEmptier false k.party × ((q : CellParty) → Did (empties false) as_ended k.party q → Rests due before x.party q)
->>>>>>> theirs
     left_last _ (answers.takes w hand y is f live h d) e = differs 7 9 refl refl e
     left_last _ (answers.gives n _ np (answers.others w f gone d)) e = differs 1 9 refl refl e
     left_last _ (answers.gives n _ np (answers.none_left w answer y f live d)) e = (
@@ -151,13 +140,8 @@ module _ (Woken : Type 0) where
     taken_wakes _ _ (answers.last v w y f live d) e = differs 9 8 refl refl e
     taken_wakes _ _ (answers.last_wakes v w i y f live d) e = differs 15 8 refl refl e
 
-<<<<<<< ours
     -- by the answer: nothing lay there, and it was the last handle
-    pub taken_last : (awaiter : Option ℕ) (n : ℕ) → Finishes x k awaiter n → n ≡ 9 → IsLive k × IsEmptier false k.party × ((q : CellParty) → Did (empties false) as_ended k.party q → Takes x.party q)
-=======
-    -- .. nothing lay there, and it was the last handle
     pub taken_last : (awaiter : Option ℕ) (n : ℕ) → Finishes x k awaiter n → n ≡ 9 → IsLast k × IsEmptier false k.party × ((q : CellParty) → Did (empties false) as_ended k.party q → Takes x.party q)
->>>>>>> theirs
     taken_last _ _ (answers.over v w f gone d) e = differs 1 9 refl refl e
     taken_last _ _ (answers.wakes v w i f gone d) e = differs 8 9 refl refl e
     taken_last _ _ (answers.last v w y f live d) e = (
@@ -167,13 +151,8 @@ module _ (Woken : Type 0) where
     )
     taken_last _ _ (answers.last_wakes v w i y f live d) e = differs 15 9 refl refl e
 
-<<<<<<< ours
     -- by the answer: the awaiter is to be woken once the places are empty
-    pub taken_last_wakes : (awaiter : Option ℕ) (n : ℕ) → Finishes x k awaiter n → n ≡ 15 → IsLive k × IsEmptier true k.party × ((q : CellParty) → Did (empties true) as_ended k.party q → Woken → Takes x.party q)
-=======
-    -- .. and it is to be woken once the places are empty
     pub taken_last_wakes : (awaiter : Option ℕ) (n : ℕ) → Finishes x k awaiter n → n ≡ 15 → IsLast k × IsEmptier true k.party × ((q : CellParty) → Did (empties true) as_ended k.party q → Woken → Takes x.party q)
->>>>>>> theirs
     taken_last_wakes _ _ (answers.over v w f gone d) e = differs 1 15 refl refl e
     taken_last_wakes _ _ (answers.wakes v w i f gone d) e = differs 8 15 refl refl e
     taken_last_wakes _ _ (answers.last v w y f live d) e = differs 9 15 refl refl e

@@ -9,15 +9,9 @@ use Rattle.task_cell.specs.TaskPaths as paths
 use Rattle.task_exports.proofs.EndsCall.{IsEmptier}
 use Rattle.task_exports.proofs.Numbers.{differs}
 use Rattle.task_exports.specs.Answers.{IsFull, Made, empties, made, refused}
-<<<<<<< ours
 use Rattle.task_exports.specs.CallPaths.{Done, hands_on}
-use Rattle.task_exports.specs.Hands.{IsGone, IsLive, SameCell}
+use Rattle.task_exports.specs.Hands.{IsGone, IsLast, IsLive, SameCell}
 use Rattle.task_exports.specs.Parties.{CellParty, party_in}
-=======
-use Rattle.task_exports.specs.CallPaths.{Done}
-use Rattle.task_exports.specs.Hands.{IsGone, IsLive, IsLast, SameCell}
-use Rattle.task_exports.specs.Parties.{CellParty}
->>>>>>> theirs
 use Rattle.task_exports.specs.TaskAnswers.{Detaches, EndsDetach}
 use Rattle.task_exports.specs.TaskAnswers as answers
 use Rattle.task_exports.specs.declared.hand.Hand.{Hand}
@@ -39,13 +33,8 @@ module _ (x k : Hand) where
   rest_over _ (answers.leaves_others w f gone d) e = (gone, stands _ _ _ _ _ d, (_, paths.leaves_others w f, d))
   rest_over _ (answers.leaves_none w z f b d) e = differs 9 1 refl refl e
 
-<<<<<<< ours
   -- by the answer: it was the last handle
-  pub rest_last : (n : ℕ) → EndsDetach x k n → n ≡ 9 → IsLive k × IsEmptier false k.party × ((q : CellParty) → Did (empties false) as_ended k.party q → Rests x.party q)
-=======
-  -- .. it was the last handle
   pub rest_last : (n : ℕ) → EndsDetach x k n → n ≡ 9 → IsLast k × IsEmptier false k.party × ((q : CellParty) → Did (empties false) as_ended k.party q → Rests x.party q)
->>>>>>> theirs
   rest_last _ (answers.leaves_others w f gone d) e = differs 1 9 refl refl e
   rest_last _ (answers.leaves_none w z f b d) e = (
     b.0,
@@ -78,15 +67,9 @@ module _ (Scheduled : Type 0) (did : Act → Type 0) where
     detach_over _ (answers.is_last w z f b d) e = differs 9 1 refl refl e
     detach_over _ (answers.is_unclaimed w z f o b d) e = differs 5 1 refl refl e
 
-<<<<<<< ours
     -- by the answer: it was the last handle
-    pub detach_last : (n : ℕ) → Detaches x k None n → n ≡ 9 → IsLive k × IsEmptier false k.party × ((q : CellParty) → Did (empties false) as_ended k.party q → Detached x.party q)
-    detach_last _ (answers.detach_missed _) e = differs 0 9 refl refl e
-=======
-    -- .. it was the last handle
     pub detach_last : (n : ℕ) → Detaches x k None n → n ≡ 9 → IsLast k × IsEmptier false k.party × ((q : CellParty) → Did (empties false) as_ended k.party q → Detached x.party q)
-    detach_last _ answers.detach_missed e = differs 0 9 refl refl e
->>>>>>> theirs
+    detach_last _ (answers.detach_missed _) e = differs 0 9 refl refl e
     detach_last _ (answers.is_shared w f gone d) e = differs 1 9 refl refl e
     detach_last _ (answers.is_last w z f b d) e = (
       b.0,

@@ -22,11 +22,7 @@ use Rattle.task_cell.specs.RunPaths.{NotifyPath}
 use Rattle.task_cell.specs.Starts.{TakesUp}
 use Rattle.task_exports.specs.Unknown.{unknown}
 use Rattle.task_cell.specs.WakerPaths.{GainPath, TaskWakePath}
-<<<<<<< ours
-use Rattle.task_exports.specs.Hands.{IsLive, IsGone, IsRecordOf, SameCell}
-=======
-use Rattle.task_exports.specs.Hands.{IsLive, IsLast, IsGone, SameCell}
->>>>>>> theirs
+use Rattle.task_exports.specs.Hands.{IsGone, IsLast, IsLive, IsRecordOf, SameCell}
 use Rattle.task_exports.specs.Parties.{CellParty}
 use Rattle.task_exports.specs.declared.hand.Hand.{Hand}
 use Rattle.task_exports.specs.declared.handle.Handle.{Handle}
@@ -36,7 +32,7 @@ use Rattle.task_exports.specs.declared.grip.Hold.{Hold}
 abbrev pub IsFull : Handle → Type 0
 IsFull h = (h.there ≡ true) × IsLive h.hand
 
--- .. or the last share
+-- a place with the last share
 abbrev pub HasLast : Handle → Type 0
 HasLast h = (h.there ≡ true) × IsLast h.hand
 
@@ -123,30 +119,31 @@ abbrev pub Records : List Deed → Hand → Hand → Type 0
 Records path x k =
     IsRecordOf x k × (k.party.seat.block ≡ x.share.maybe.id) × (k.party.seat.me ≡ (view x.share.maybe.key.limit (member as_lent (after path []) ∷ []), []))
 
--- a wake: 10, a Runnable is to be scheduled; 12, there is none
+-- what a call by reference in the cell of x has left of itself whose tries have missed, as many as this
+abbrev pub Misses : ℕ → Hand → Hand → Type 0
+Misses tries x k = IsGone k × SameCell k x × (k.party.seat.block ≡ x.share.maybe.id) × HasMissed tries k.party.seat.me
+
+-- a wake: 0, each try has missed; 10, a Runnable is to be scheduled; 12, there is none
 pub data Wakes (x k : Hand) : ℕ → Type 0 where
+  wake_missed : Misses (2 ^ 64 - 1) x k → Wakes x k 0
   nothing : (path : List Deed) → TaskWakePath false path → Records path x k → Wakes x k 12
   delivers : IsLive k → SameCell k x → Stands as_runnable k.party → Wakes x k 10
 
--- a gain: 12, a new waker; 13, the count is at its limit
+-- a gain: 0, each try has missed; 12, a new waker; 13, the count is at its limit
 pub data Gains (x k : Hand) : ℕ → Type 0 where
+  gain_missed : Misses (2 ^ 64 - 2) x k → Gains x k 0
   at_limit : (path : List Deed) → GainPath x.share.maybe.key.limit false path → Records path x k → Gains x k 13
   gains : IsLive k → SameCell k x → Stands as_waker k.party → Gains x k 12
-
--- what a call has put into a place, unless each of its tries has missed
-pub data Puts (Says : Hand → ℕ → Type 0) (k : Handle) : ℕ → Type 0 where
-  puts_none : k.there ≡ false → Puts Says k 0
-  puts : (n : ℕ) → k.there ≡ true → Says k.hand n → Puts Says k n
-
--- what a call has brought into a place, unless each of its tries has missed
-pub data Comes (Says : Hand → ℕ → Type 0) : Option Hand → ℕ → Type 0 where
-  comes_none : Comes Says None 0
-  comes : (n : ℕ) (k : Hand) → Says k n → Comes Says (Some k) n
 
 -- the last handle has emptied the places, and its call has ended
 abbrev pub empties : Bool → List Deed
 empties true = act EmptySlots ∷ act WakeAwaiter ∷ act EndCall ∷ []
 empties false = act EmptySlots ∷ act EndCall ∷ []
+
+-- what becomes of a cell whose last handle, or a hold, has ended: 2, it has ended; 12, somebody else keeps it
+pub data TellsEnd : ℕ → Type 0 where
+  cell_ended : TellsEnd 2
+  cell_kept : TellsEnd 12
 
 -- a waker's drop: 1, others are left; 9, it was the last handle of a task that is over; 10, of an open task: its Runnable, by a party that
 -- has ended
@@ -157,7 +154,7 @@ pub data DropsWaker (x k : Hand) : Option CellParty → ℕ → Type 0 where
   orphan_waker : (w v : State) (ended : CellParty) → others_left w ≡ false → is_open w ≡ true → IsLive k → Stands as_runnable k.party
       → Did (row OrphanTask w ∷ row CloseOrphan v ∷ act HandOver ∷ act EndCall ∷ []) as_ended x.party ended → DropsWaker x k (Some ended) 10
 
--- a hold: 12, it is made
-pub data Holds (k : Hold) : ℕ → Type 0 where
-  hold_missed : k.there ≡ false → Holds k 0
-  held : k.there ≡ true → Holds k 12
+-- a hold of the cell of x: 0, none is made; 12, it is made
+pub data Holds (x : Hand) (k : Hold) : ℕ → Type 0 where
+  hold_missed : k.there ≡ false → Holds x k 0
+  held : k.there ≡ true → k.grip.hold.hold.value ≡ x.share.maybe.value → Holds x k 12

@@ -21,12 +21,8 @@ IsLast x = ((x.share.maybe.there ≡ false) × (x.share.maybe.last ≡ true)) ×
 
 -- the share is gone
 abbrev pub IsGone : Hand → Type 0
-<<<<<<< ours
-IsGone x = x.share.maybe.there ≡ false
+IsGone x = (x.share.maybe.there ≡ false) × (x.share.maybe.last ≡ false)
 
 -- the record of a call by the hand x: its share is gone, and it has the same bits
 abbrev pub IsRecordOf : Hand → Hand → Type 0
 IsRecordOf x k = IsGone k × SameBits x k
-=======
-IsGone x = (x.share.maybe.there ≡ false) × (x.share.maybe.last ≡ false)
->>>>>>> theirs

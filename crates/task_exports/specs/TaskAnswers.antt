@@ -28,7 +28,7 @@ use Rattle.task_cell.specs.PollPaths.{dropped_if}
 use Rattle.task_cell.specs.declared.cell.Party.{Party}
 use Rattle.task_cell.specs.declared.cell.Cell.{Cell}
 use Rattle.counted_block.specs.Blocks.{BlockId}
-use Rattle.task_exports.specs.Hands.{IsLive, IsLast, IsGone}
+use Rattle.task_exports.specs.Hands.{IsGone, IsLast, IsLive}
 use Rattle.task_exports.specs.Parties.{CellParty, cell_in}
 use Rattle.task_exports.specs.declared.hand.Hand.{Hand}
 use Rattle.task_exports.specs.declared.handle.Handle.{Handle}
@@ -180,7 +180,7 @@ module _ {F T A : Type 0} where
 abbrev pub Becomes : Hand → Hand → Type 0
 Becomes x y = IsLive y × (cell_in y ≡ cell_in x)
 
--- .. or its last share
+-- the hand has become this one of the same cell, which has the last share
 abbrev pub BecomesLast : Hand → Hand → Type 0
 BecomesLast x y = IsLast y × (cell_in y ≡ cell_in x)
 

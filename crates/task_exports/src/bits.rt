@@ -19,7 +19,7 @@ impl Model for Bits {
     ghost also_owns = { λ h. owned_at h.at h.hand };
 }
 
-/// What an export leaves of a handle: all but its bits, which are the caller's still. It has no bytes.
+/// What an export leaves of a handle: all but its bits, which are the caller's still. Or what it brings of another one, or of the record of its call, which has the same bits. It has no bytes.
 #[repr(C)]
 pub struct Left {
     pub ghost hand: { Hand },
@@ -31,7 +31,7 @@ impl Model for Left {
     ghost also_owns = { λ h. owned h.hand };
 }
 
-/// A second handle of the same cell, or the record of the call, which has the same bits; or none. It has no bytes.
+/// The record of the call, which has the same bits; or none. It has no bytes.
 #[repr(C)]
 pub struct Brought {
     pub ghost hand: { Option Hand },
@@ -50,11 +50,11 @@ pub struct Answer {
     pub left: Left,
 }
 
-/// What an export by a share that is lent answers, and brings.
+/// What an export answers, and brings: a second handle of the same cell, or the record of the call, which the caller forgets.
 #[repr(C)]
 pub struct Brings {
     pub number: u32,
-    pub brought: Brought,
+    pub brought: Left,
 }
 
 /// What an export answers, leaves and brings by which a call may end that hands its own share on: the record of the call then, which the caller forgets.
@@ -89,7 +89,7 @@ pub fn close(hand: Hand) -> Left
     Left {}
 }
 
-/// What a second handle is beside its bits.
+/// What a record is beside its bits.
 pub fn bring(hand: Hand) -> Brought
     ensures { result.hand ≡ Some hand }
 {
@@ -99,14 +99,14 @@ pub fn bring(hand: Hand) -> Brought
     Brought {}
 }
 
-/// No second handle.
+/// No record.
 pub fn bring_none() -> Brought
     ensures { result.hand ≡ None }
 {
     Brought {}
 }
 
-/// What there is of a second handle beside its bits.
+/// What there is of a record beside its bits.
 pub fn bring_if(hand: Option<Hand>) -> Brought
     ensures { result.hand ≡ hand }
 {

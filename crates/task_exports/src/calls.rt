@@ -15,6 +15,7 @@ pub mod crossing;
 pub mod detach;
 pub mod discard;
 pub mod ends;
+pub mod hold;
 pub mod lending;
 pub mod poll;
 pub mod run;

@@ -1,13 +1,8 @@
 //! How calls end that give a reference up: the awaiter is taken where one is due, and the last handle empties the places.
 ghost use Rattle.std.specs.Prelude.{◌≡◌, ℕ, [], ◌∷◌, Option, None, is_some, true, false, if◌then◌else◌};
 ghost use Rattle.task_cell.specs.Calls.{Did, Stands, StandsWith};
-<<<<<<< ours
-ghost use Rattle.task_exports.specs.Answers.{BeginsDue, Finishes, GivesBack, GivesUpNext, GoesOn, IsFull, empties};
-ghost use Rattle.task_exports.specs.Hands.{IsGone, IsLive, SameBits};
-=======
-ghost use Rattle.task_exports.specs.Answers.{BeginsDue, Finishes, GivesBack, GivesUpNext, GoesOn, HasLast, IsFull, empties};
-ghost use Rattle.task_exports.specs.Hands.{IsGone, IsLast, IsLive};
->>>>>>> theirs
+ghost use Rattle.task_exports.specs.Answers.{BeginsDue, Finishes, GivesBack, GivesUpNext, GoesOn, HasLast, TellsEnd, empties};
+ghost use Rattle.task_exports.specs.Hands.{IsGone, IsLast, IsLive, SameBits};
 ghost use Rattle.task_laws.specs.Table.{notifies};
 ghost use Rattle.task_laws.specs.declared.positions.Answer.{Answer};
 ghost use Rattle.task_laws.specs.declared.positions.Answer.TheVariants.{Ran};
@@ -115,7 +110,7 @@ pub extern "C" fn async_task_finish(h: Bits) -> bits::Answer
 }
 
 // Whether the cell has ended, as a number.
-fn told(ended: bool) -> u32
+pub(crate) fn told(ended: bool) -> u32
     ensures { result ≡ (if ended then 2 else 12) }
 {
     if ended { ENDED } else { DONE }
@@ -125,7 +120,8 @@ fn told(ended: bool) -> u32
 fn empty(hand: Hand, took: bool) -> (Hand, u32)
     requires hand { IsLast hand }
     requires party { (awaiter : Option ℕ) × (answer : Answer) × (y : _) × StandsWith (Emptier awaiter answer) (awaiter_first y []) hand.party × (is_some awaiter ≡ took) }
-    ensures { IsGone result.0 × Did (empties took) as_ended hand.party result.0.party }
+    ensures answer { TellsEnd result.1 }
+    ensures path { IsGone result.0 × Did (empties took) as_ended hand.party result.0.party }
 {
     let Hand { share, mut party } = hand;
     let last = share.last();
@@ -146,6 +142,7 @@ fn empty(hand: Hand, took: bool) -> (Hand, u32)
 pub extern "C" fn async_task_empty(h: &mut Handle, took: bool) -> u32
     requires handle { HasLast h.old }
     requires party { (awaiter : Option ℕ) × (answer : Answer) × (y : _) × StandsWith (Emptier awaiter answer) (awaiter_first y []) h.old.hand.party × (is_some awaiter ≡ took) }
+    ensures answer { TellsEnd result }
     ensures there { h.new.there ≡ true }
     ensures path { IsGone h.new.hand × Did (empties took) as_ended h.old.hand.party h.new.hand.party }
 {

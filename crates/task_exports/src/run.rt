@@ -1,5 +1,5 @@
 //! The steps of a run.
-ghost use Rattle.std.specs.Prelude.{◌≡◌, [], ◌∷◌, IfSome, nat_eq, true, false};
+ghost use Rattle.std.specs.Prelude.{◌≡◌, [], ◌∷◌, IfSome, true, false};
 ghost use Rattle.task_core.specs.Word.{State};
 ghost use Rattle.task_core.specs.declared.acts.Act.TheVariants.{DropOutput, EndClosed, Unschedule};
 ghost use Rattle.task_cell.specs.Calls.{Stands, StandsWith};
@@ -156,7 +156,7 @@ pub extern "C" fn async_task_output_dropped(h: &mut Handle, due: bool) -> u32
 fn pend(hand: Hand) -> (Hand, u32, Option<Hand>)
     requires hand { IsLive hand }
     requires party { (y : _) × StandsWith Polling (work_first y []) hand.party × IsFuture unknown y }
-    ensures bits { nat_eq result.1 0 ≡ false → SameBits hand result.0 }
+    ensures bits { SameBits hand result.0 }
     ensures record { IfSome result.2 (λ k. IsRecordOf hand k) }
     ensures path { Pends hand result.0 (party_in result.2) result.1 }
 {
@@ -198,7 +198,7 @@ fn pend(hand: Hand) -> (Hand, u32, Option<Hand>)
 pub extern "C" fn async_task_pending(h: Bits) -> Ends
     requires handle { IsLive h.hand }
     requires party { (y : _) × StandsWith Polling (work_first y []) h.hand.party × IsFuture unknown y }
-    ensures bits { nat_eq result.number 0 ≡ false → SameBits h.hand result.left.hand }
+    ensures bits { SameBits h.hand result.left.hand }
     ensures record { IfSome result.brought.hand (λ k. IsRecordOf h.hand k) }
     ensures path { Pends h.hand result.left.hand (party_in result.brought.hand) result.number }
 {

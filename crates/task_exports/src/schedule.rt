@@ -1,11 +1,10 @@
 //! Runnables that go to the schedule function.
-ghost use Rattle.std.specs.Prelude.{◌≡◌, ◌∷◌, [], Some, true};
+ghost use Rattle.std.specs.Prelude.{◌≡◌, ◌∷◌, [], true};
 ghost use Rattle.task_cell.specs.Belongs.{IsOf, limit_in};
 ghost use Rattle.task_cell.specs.Calls.{Did, Stands, limit_of};
 ghost use Rattle.task_core.specs.declared.acts.Act.TheVariants.{EndCall, HandOver};
 ghost use Rattle.task_exports.specs.Answers.{IsFull};
 ghost use Rattle.task_exports.specs.Hands.{IsGone, IsLive, IsRecordOf};
-ghost use Rattle.task_exports.specs.declared.hand.Hand.{Hand};
 ghost use Rattle.task_laws.specs.declared.positions.Answer.{Answer};
 ghost use Rattle.task_laws.specs.declared.positions.OnceDelivered.TheVariants.{ThenEnds};
 ghost use Rattle.task_laws.specs.declared.positions.Position.{Position};
@@ -15,7 +14,7 @@ ghost use Rattle.task_steps.specs.Deeds.{act};
 ghost use Rattle.task_steps.specs.Standing.{as_ended, as_runnable, hands_over, handed_over};
 
 use crate::answers::SCHEDULE;
-use crate::bits::{Brings, bring};
+use crate::bits::{Brings, close};
 use crate::hand::{CellParty, CellShare, Hand};
 use crate::handle::{Handle, put, take};
 
@@ -47,12 +46,12 @@ pub extern "C" fn async_task_schedule(h: &mut Handle) -> Brings
     requires party { Stands as_runnable h.old.hand.party }
     ensures answer { result.number ≡ 10 }
     ensures runnable { IsFull h.new × Stands as_runnable h.new.hand.party }
-    ensures record { (k : Hand) × (result.brought.hand ≡ Some k) × IsRecordOf h.new.hand k × Did (act HandOver ∷ act EndCall ∷ []) as_ended h.old.hand.party k.party }
+    ensures record { IsRecordOf h.new.hand result.brought.hand × Did (act HandOver ∷ act EndCall ∷ []) as_ended h.old.hand.party result.brought.hand.party }
 {
     let Hand { share, party } = take(h);
     let (hand, ended) = hand_on(share.share(), party);
     put(h, hand);
-    let brought = bring(ended);
+    let brought = close(ended);
     Brings {
         number: SCHEDULE,
         brought,

@@ -45,8 +45,8 @@ pub fn again(address: Address, left: Left) -> Bits
     Bits { at }
 }
 
-/// The second handle that an export has brought, or the record of its call, as what is left of a handle.
-pub fn second(brought: Brought) -> Left
+/// The record that an export has brought, as what is left of a handle.
+pub fn one(brought: Brought) -> Left
     requires { is_some brought.hand ≡ true }
     ensures { brought.hand ≡ Some result.hand }
 {
@@ -59,17 +59,6 @@ pub fn none(brought: Brought)
     requires { brought.hand ≡ None }
 {
     let Brought {} = brought;
-}
-
-/// What an export answers whose tries have missed: its caller ends the process.
-pub fn lose(answer: Ends)
-    requires { answer.number ≡ 0 }
-{
-    let Ends {
-        number: _,
-        left: Left {},
-        brought: Brought {},
-    } = answer;
 }
 
 /// The handle at `h`, for an export that gets it by its bits. The place is room meanwhile.
@@ -93,19 +82,18 @@ pub fn back(h: &mut Handle, address: Address, answer: Answer) -> u32
 }
 
 /// What an export has brought beside the handle at `h`, which has the same bits.
-pub fn fetch(h: &mut Handle, brought: Brought) -> Hand
+pub fn fetch(h: &mut Handle, brought: Left) -> Hand
     requires handle { h.old.there ≡ true }
-    requires bits { IfSome brought.hand (λ k. SameBits h.old.hand k) }
-    requires there { is_some brought.hand ≡ true }
+    requires bits { SameBits h.old.hand brought.hand }
     ensures handle { (h.new.hand ≡ h.old.hand) × (h.new.there ≡ true) }
-    ensures brought { brought.hand ≡ Some result }
+    ensures brought { result ≡ brought.hand }
 {
     let (bits, address) = lend(h);
     put(h, open(bits));
-    open(again(address, second(brought)))
+    open(again(address, brought))
 }
 
-/// The same, where `there` says that it has.
+/// The record that an export has brought beside the handle at `h`, where `there` says that it has.
 pub fn fetch_if(h: &mut Handle, brought: Brought, there: bool) -> Option<Hand>
     requires handle { h.old.there ≡ true }
     requires bits { IfSome brought.hand (λ k. SameBits h.old.hand k) }
@@ -114,7 +102,7 @@ pub fn fetch_if(h: &mut Handle, brought: Brought, there: bool) -> Option<Hand>
     ensures brought { result ≡ brought.hand }
 {
     if there {
-        Some(fetch(h, brought))
+        Some(fetch(h, one(brought)))
     } else {
         none(brought);
         None

@@ -18,11 +18,11 @@ ghost use Rattle.task_steps.specs.declared.table.Deed.{Deed};
 ghost use Rattle.task_exports.specs.Unknown.{unknown};
 
 use crate::answers::{
-    DROP_FUTURE, DROP_OUTPUT, DROP_OUTPUT_DUE, LAST, LAST_WAKE, MISSED, OVER, POLL, SCHEDULE_WOKEN,
-    TAKE, WAKE,
+    DROP_FUTURE, DROP_OUTPUT, DROP_OUTPUT_DUE, LAST, LAST_WAKE, OVER, POLL, SCHEDULE_WOKEN, TAKE,
+    WAKE,
 };
 use crate::caller::Caller;
-use crate::calls::crossing::{end, lend, lose};
+use crate::calls::crossing::{end, lend};
 use crate::calls::ends::{empty, over, record, wake_last};
 use crate::ends::async_task_finish;
 use crate::hand::Record;
@@ -138,12 +138,7 @@ fn end_pending<A: Wake, C: Caller<A>>(h: &mut Handle, caller: &mut C) -> Option<
     ensures { IfSome result (λ ended. (path : List Deed) × PendingPath ((a : A) × (r : A.Record) × A.woken a r) C.scheduled ended.0 path × Done C.did path × Did path as_ended h.old.hand.party ended.1.party) }
 {
     let (bits, address) = lend(h);
-    let answer = async_task_pending(bits);
-    if answer.number == MISSED {
-        lose(answer);
-        return None;
-    }
-    let (answer, ended) = end(h, address, answer);
+    let (answer, ended) = end(h, address, async_task_pending(bits));
     match ended {
         Some(ended) => {
             let woken = answer == SCHEDULE_WOKEN;

@@ -11,18 +11,9 @@ take_unclaimed-last-requires-clause-cell c = c.requires.hand.1 ∙ sym c.share-s
 pub take_unclaimed-last-requires-clause-party : goal.take_unclaimed-last-requires-clause-party
 take_unclaimed-last-requires-clause-party c = let s = c.requires.party in (s.0, s.1, c.requires.closed)
 
-<<<<<<< ours
 pub returns-else-last-clause-path : goal.returns-else-last-clause-path
-returns-else-last-clause-path c = rest_shared _ _ _ c.if-last.false c.take_unclaimed-last.ensures.path (c.take_unclaimed-last.ensures.share.is_there ∙ c.if-last.false)
+returns-else-last-clause-path c = rest_shared _ _ _ c.if-last.false c.take_unclaimed-last.ensures.path (c.take_unclaimed-last.ensures.share.is_there, c.take_unclaimed-last.ensures.share.is_last ∙ c.if-last.false)
 
 pub returns-then-last-clause-path : goal.returns-then-last-clause-path
 returns-then-last-clause-path c = let h = c.requires.hand in let e = c.take_unclaimed-last.ensures in let s = c.share-share.ensures in let t = sym s.0 in
-    rest_last _ _ _ c.if-last.true e.path (live_rest _ c.take_unclaimed-last.result.1 _ _ _ (h.1 ∙ sym s.0) (h.2 ∙ sym (ap (λ k. k.limit) s.1)) e.share c.if-last.true e.path, λ i. ((e.share.cell.0 ∙ s.0) i, (e.share.cell.1 ∙ s.2) i))
-=======
-pub returns-else-last : goal.returns-else-last
-returns-else-last c = rest_shared _ _ _ c.if-last.false c.take_unclaimed-last.ensures.path (c.take_unclaimed-last.ensures.share.is_there, c.take_unclaimed-last.ensures.share.is_last ∙ c.if-last.false)
-
-pub returns-then-last : goal.returns-then-last
-returns-then-last c = let h = c.requires.hand in let e = c.take_unclaimed-last.ensures in let s = c.share-share.ensures in let t = sym s.0 in
     rest_last _ _ _ c.if-last.true e.path (last_rest _ c.take_unclaimed-last.result.1 _ _ _ (h.1 ∙ sym s.0) (h.2 ∙ sym (ap (λ k. k.limit) s.1)) e.share c.if-last.true e.path, λ i. ((e.share.cell.0 ∙ s.0) i, (e.share.cell.1 ∙ s.2) i))
->>>>>>> theirs

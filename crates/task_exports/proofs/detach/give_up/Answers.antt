@@ -14,27 +14,16 @@ use Rattle.task_exports.proofs.detach.give_up.Goals as goal
 pub returns-in-Err-clause-path : goal.returns-in-Err-clause-path
 returns-in-Err-clause-path c = detach_missed c.in-Err.ensures.missed
 
-<<<<<<< ours
 pub returns-in-Shared-clause-path : goal.returns-in-Shared-clause-path
-returns-in-Shared-clause-path c = shared_so (values_in c.share-share.result) c.args.hand _ (subst (λ f. DetachesRow (values_in c.share-share.result) c.args.hand.party c.give_task_up_some.new.party f) c.in-Shared.is c.in-Ok.ensures.path) (c.in-Ok.ensures.share.is_there ∙ ap (λ f. not (ends_task f)) c.in-Shared.is)
-=======
-pub returns-in-Shared : goal.returns-in-Shared
-returns-in-Shared c = shared_so (values_in c.share-share.result) c.args.hand _ (subst (λ f. DetachesRow (values_in c.share-share.result) c.args.hand.party c.give_task_up_some.new.party f) c.in-Shared.is c.in-Ok.ensures.path) (c.in-Ok.ensures.share.is_there ∙ ap (λ f. not (ends_task f)) c.in-Shared.is, c.in-Ok.ensures.share.is_last ∙ ap ends_last c.in-Shared.is)
->>>>>>> theirs
+returns-in-Shared-clause-path c = shared_so (values_in c.share-share.result) c.args.hand _ (subst (λ f. DetachesRow (values_in c.share-share.result) c.args.hand.party c.give_task_up_some.new.party f) c.in-Shared.is c.in-Ok.ensures.path) (c.in-Ok.ensures.share.is_there ∙ ap (λ f. not (ends_task f)) c.in-Shared.is, c.in-Ok.ensures.share.is_last ∙ ap ends_last c.in-Shared.is)
 
 pub returns-in-Unclaimed-clause-path : goal.returns-in-Unclaimed-clause-path
 returns-in-Unclaimed-clause-path c = let h = c.requires.hand in let s = c.share-share.ensures in let l = c.in-Ok.ensures.share in let x = (subst (λ f. DetachesRow (values_in c.share-share.result) c.args.hand.party c.give_task_up_some.new.party f) c.in-Unclaimed.is c.in-Ok.ensures.path) in
     unclaimed_so (values_in c.share-share.result) c.args.hand _ x (live_after c.share-share.result c.in-Ok.made.1 _ _ _ _ _ _ (h.1 ∙ sym s.0) (h.2 ∙ sym (ap (λ k. k.limit) s.1)) l (ap (λ f. not (ends_task f)) c.in-Unclaimed.is) x.4, λ i. ((l.cell.0 ∙ s.0) i, (l.cell.1 ∙ s.2) i))
 
-<<<<<<< ours
 pub returns-in-Last-clause-path : goal.returns-in-Last-clause-path
 returns-in-Last-clause-path c = let h = c.requires.hand in let s = c.share-share.ensures in let l = c.in-Ok.ensures.share in let x = (subst (λ f. DetachesRow (values_in c.share-share.result) c.args.hand.party c.give_task_up_some.new.party f) c.in-Last.is c.in-Ok.ensures.path) in
-    last_so (values_in c.share-share.result) c.args.hand _ x (live_after c.share-share.result c.in-Ok.made.1 _ _ _ _ _ _ (h.1 ∙ sym s.0) (h.2 ∙ sym (ap (λ k. k.limit) s.1)) l (ap (λ f. not (ends_task f)) c.in-Last.is) x.3, λ i. ((l.cell.0 ∙ s.0) i, (l.cell.1 ∙ s.2) i))
-=======
-pub returns-in-Last : goal.returns-in-Last
-returns-in-Last c = let h = c.requires.hand in let s = c.share-share.ensures in let l = c.in-Ok.ensures.share in let x = (subst (λ f. DetachesRow (values_in c.share-share.result) c.args.hand.party c.give_task_up_some.new.party f) c.in-Last.is c.in-Ok.ensures.path) in
     last_so (values_in c.share-share.result) c.args.hand _ x (last_after c.share-share.result c.in-Ok.made.1 _ _ _ _ _ _ _ (h.1 ∙ sym s.0) (h.2 ∙ sym (ap (λ k. k.limit) s.1)) l (ap (λ f. not (ends_task f)) c.in-Last.is) (ap ends_last c.in-Last.is) x.3, λ i. ((l.cell.0 ∙ s.0) i, (l.cell.1 ∙ s.2) i))
->>>>>>> theirs
 
 pub hand_on-hand-requires-clause-party : goal.hand_on-hand-requires-clause-party
 hand_on-hand-requires-clause-party c = let x = (subst (λ f. DetachesRow (values_in c.share-share.result) c.args.hand.party c.give_task_up_some.new.party f) c.in-Orphaned.is c.in-Ok.ensures.path) in (as_deliverer, Nothing, refl, refl, stands c.args.hand.party c.give_task_up_some.new.party _ _ _ x.2)

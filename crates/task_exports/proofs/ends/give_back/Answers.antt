@@ -8,15 +8,9 @@ use Rattle.task_exports.proofs.ends.give_back.Goals as goal
 pub give_up-last-requires-clause-party : goal.give_up-last-requires-clause-party
 give_up-last-requires-clause-party c = (None, c.requires.party.0, c.requires.party.1)
 
-<<<<<<< ours
 pub returns-then-last-clause-path : goal.returns-then-last-clause-path
 returns-then-last-clause-path c = let s = c.requires.party in let l = was_last _ _ _ _ _ (c.give_up-last.ensures.path None s.0 s.1) c.if-last.true in
-    none_left l.word s.0 l.place l.fits (lives_left c.args.hand.share c.give_up-last.result.1 c.share-share.result c.args.hand.party _ _ _ _ _ c.requires.hand c.share-share.ensures c.give_up-last.ensures.share c.if-last.true l.did) l.did
-=======
-pub returns-then-last : goal.returns-then-last
-returns-then-last c = let s = c.requires.party in let l = was_last _ _ _ _ _ (c.give_up-last.ensures.path None s.0 s.1) c.if-last.true in
     none_left l.word s.0 l.place l.fits (lasts_left c.args.hand.share c.give_up-last.result.1 c.share-share.result c.args.hand.party _ _ _ _ _ c.requires.hand c.share-share.ensures c.give_up-last.ensures.share c.if-last.true l.did) l.did
->>>>>>> theirs
 
 pub end-requires-clause-cell : goal.end-requires-clause-cell
 end-requires-clause-cell c = let s = c.requires.party in let l = left_others _ _ _ _ _ (c.give_up-last.ensures.path None s.0 s.1) c.if-last.false in
@@ -25,12 +19,6 @@ end-requires-clause-cell c = let s = c.requires.party in let l = left_others _ _
 pub end-requires-clause-party : goal.end-requires-clause-party
 end-requires-clause-party c = let s = c.requires.party in let l = left_others _ _ _ _ _ (c.give_up-last.ensures.path None s.0 s.1) c.if-last.false in (s.0, Ended, stands _ _ _ _ _ l.did)
 
-<<<<<<< ours
 pub returns-clause-path : goal.returns-clause-path
 returns-clause-path c = let s = c.requires.party in let l = left_others _ _ _ _ _ (c.give_up-last.ensures.path None s.0 s.1) c.if-last.false in
-    others l.word l.fits (c.give_up-last.ensures.share.is_there ∙ c.if-last.false) (and_ends (row GiveUpReference l.word ∷ []) s.0 _ _ _ l.did c.end.ensures)
-=======
-pub returns : goal.returns
-returns c = let s = c.requires.party in let l = left_others _ _ _ _ _ (c.give_up-last.ensures.path None s.0 s.1) c.if-last.false in
     others l.word l.fits (c.give_up-last.ensures.share.is_there, c.give_up-last.ensures.share.is_last ∙ c.if-last.false) (and_ends (row GiveUpReference l.word ∷ []) s.0 _ _ _ l.did c.end.ensures)
->>>>>>> theirs

@@ -1,7 +1,7 @@
 -- `async_task_wake` makes a `&` to the share that is lent, of a place of its own for its bits, and hands it on.
 use Rattle.task_exports.proofs.LentWalks.{ !, [], ◌∷◌, ◌≡◌, refl, proved, after, full_share, ftrue, fat, flft, froom, fdead, fsep, fact, tables, ‵, raw, ◌⊛◌, some, later, await, at_ret, ◌$◌, ◌∵◌, qed, done, move, keep, drop, use0, use1, use2, split, join, fsplit, fjoin, feq_i, pick, rewrite, suffices, frame, group, enter, of_opd, stop, addr, from, forget, init, no_more, and_then, assigns, first, blocks, exec, returns, alloc_all, pass_all, free_all, look_at, get, through, sets, sets_last, take_at, give_at, lands_as, env, yes, shows, Is, Ptr, RawPtr, ptr_val, ty_ptr, rawptr_Lawful, rawptr_vals, rawptr_Tells, block_of, count_of, plain, nothing, heard, peeks, id⊢, Stays, walk_of, says, stay_dropped, Goes-dropped, ends_at, apply∗, wand, sep, snd∗, ex_e, sem, Lft, Share, Bor, shr_vals, shared_of, lent_at, calls_at, lasts, ensured, on_entry, triple_of, framed, lft_new, lft_end, lft-common, common, before, before-Incl, meet_⊑_left, meet_⊑_right}
 use Rattle.task_exports.proofs.Lending.{lent, beside, apart, whole, lends_here, comes_back}
-use Rattle.task_exports.specs.Answers.{Comes, Wakes}
+use Rattle.task_exports.specs.Answers.{Wakes}
 use Rattle.task_exports.specs.Lent.{IsShareOf}
 use Rattle.task_exports.specs.declared.hand.Hand.{Hand}
 use Rattle.task_exports.specs.declared.hand.Lent.{Lent}
@@ -20,7 +20,7 @@ abbrev stayed : Stays f.ended.signature.params f.ended.kept
 stayed = (stay_dropped _ yes, tt)
 
 abbrev Says : Lent → Brings → Type 0
-Says x r = (y : Hand) → IsShareOf y x → Comes (λ k n. Wakes y k n) r.brought.hand r.number
+Says x r = (y : Hand) → IsShareOf y x → Wakes y r.brought.hand r.number
 
 pub async_task_wake_spec : {M : Type 1} → statement M
 async_task_wake_spec {M} 𝓤 𝓛 𝓜 𝓡 wired =

@@ -2,8 +2,8 @@ use Rattle.task_cell.proofs.Vocabulary.{◌≡◌, false, List, Deed, Stands, su
 use Rattle.task_cell.specs.Belongs.{HasMade, IsOf, cell_of, limit_in}
 use Rattle.task_cell.specs.WakerPaths.{TaskWakePath}
 use Rattle.task_steps.specs.Standing.{as_runnable}
-use Rattle.task_exports.specs.Answers.{nothing, delivers}
-use Rattle.task_exports.proofs.Live.{brings, records}
+use Rattle.task_exports.specs.Answers.{delivers, nothing, wake_missed}
+use Rattle.task_exports.proofs.Live.{brings, misses, records}
 use Rattle.task_exports.proofs.lent.wake_by.Goals as goal
 
 pub returns-in-Ok-Ok : goal.returns-in-Ok-Ok
@@ -14,3 +14,6 @@ returns-in-Ok-Ok c x of = let same = subst (λ o. IfOk o (λ n. cell_of n.0 ≡ 
 pub returns-in-Ok-Err : goal.returns-in-Ok-Err
 returns-in-Ok-Err c x of = let r = subst (λ o. IfErr o (λ p. (path : List Deed) × TaskWakePath false path × HasMade c.args.share.now path p)) c.in-Ok-Err.field-0-is c.in-Ok-Err.ensures.nothing in
     nothing r.0 r.1 (records x.share c.gone.result c.args.share.now r.0 c.in-Ok-Err.record of c.gone.ensures r.2)
+
+pub returns-in-Err : goal.returns-in-Err
+returns-in-Err c x of = wake_missed (misses x.share c.gone-in-Err.result c.args.share.now _ c.in-Err.record of c.gone-in-Err.ensures c.in-Err.ensures.missed)

@@ -16,7 +16,7 @@ pub pend-hand-requires-clause-party : goal.pend-hand-requires-clause-party
 pend-hand-requires-clause-party c = let s = c.requires.party in (s.0, subst (λ x. StandsWith Polling (work_first s.0 []) x.party) (sym c.open.ensures) s.1, s.2)
 
 pub returns-clause-bits : goal.returns-clause-bits
-returns-clause-bits c = λ e. ap (λ (x : Hand). x.share.maybe.id) c.close-left.ensures ∙ (c.pend-hand.ensures.bits e ∙ ap (λ (x : Hand). x.share.maybe.id) c.open.ensures)
+returns-clause-bits c = ap (λ (x : Hand). x.share.maybe.id) c.close-left.ensures ∙ (c.pend-hand.ensures.bits ∙ ap (λ (x : Hand). x.share.maybe.id) c.open.ensures)
 
 pub returns-clause-record : goal.returns-clause-record
 returns-clause-record c = subst (λ o. IfSome o (λ k. IsRecordOf c.args.h.hand k)) (sym c.bring_if-brought.ensures) (subst (λ x. IfSome c.pend-hand.result.2 (λ k. IsRecordOf x k)) c.open.ensures c.pend-hand.ensures.record)

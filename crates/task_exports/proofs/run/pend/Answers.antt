@@ -8,7 +8,6 @@ use Rattle.task_cell.proofs.RunEnds.{cleared_first, left_pending, by_end}
 use Rattle.task_exports.specs.Answers.{pend_missed, closed, woken, idle, orphaned}
 use Rattle.task_exports.proofs.Live.{of_cell, of_limit, lives_on, lives_kept}
 use Rattle.task_exports.proofs.Unknown.{known_future}
-use Rattle.task_steps.proofs.Bools.{never}
 use Rattle.task_exports.proofs.run.pend.Goals as goal
 
 pub answer_pending-found-requires-clause-party : goal.answer_pending-found-requires-clause-party
@@ -54,7 +53,7 @@ returns-in-Orphaned-clause-path c = let s = c.requires.party in let x = by_end _
     (did_then _ _ _ (act AnswerPending ∷ row EndOrphaned x.0 ∷ []) (act HandOver ∷ act EndCall ∷ []) (Deliverer false (ThenEnds (Ran false))) as_ended [] [] x.4 o.ended)
 
 pub returns-in-Idle-clause-path : goal.returns-in-Idle-clause-path
-returns-in-Idle-clause-path c = let s = c.requires.party in let x = by_end _ _ _ _ _ s.0 (c.answer_pending-found.ensures.path (work_first s.0 []) s.1) (sym c.closed.ensures ∙ c.if-closed.false) c.in-Ok-Ok.ensures.path (Some Idle) (ap end_of c.in-Ok-Ok.field-0-is ∙ ap (λ x. Some x) c.in-Idle.is) in let l = subst (λ t. IfOk t (λ r. Leaves c.share-share.result r.1 (not (ends_run r.0)))) c.in-Ok-Ok.field-0-is c.in-Ok-Ok.ensures.share in idle x.0 x.1 x.2 x.3 (l.is_there ∙ ap (λ x. not (ends_run x)) c.in-Idle.is) x.4
+returns-in-Idle-clause-path c = let s = c.requires.party in let x = by_end _ _ _ _ _ s.0 (c.answer_pending-found.ensures.path (work_first s.0 []) s.1) (sym c.closed.ensures ∙ c.if-closed.false) c.in-Ok-Ok.ensures.path (Some Idle) (ap end_of c.in-Ok-Ok.field-0-is ∙ ap (λ x. Some x) c.in-Idle.is) in let l = subst (λ t. IfOk t (λ r. Leaves c.share-share.result r.1 (not (ends_run r.0)))) c.in-Ok-Ok.field-0-is c.in-Ok-Ok.ensures.share in idle x.0 x.1 x.2 x.3 (l.is_there ∙ ap (λ x. not (ends_run x)) c.in-Idle.is, l.is_last) x.4
 
 pub returns-in-Ok-Err-clause-path : goal.returns-in-Ok-Err-clause-path
 returns-in-Ok-Err-clause-path c = let s = c.requires.party in let x = by_end _ _ _ _ _ s.0 (c.answer_pending-found.ensures.path (work_first s.0 []) s.1) (sym c.closed.ensures ∙ c.if-closed.false) c.in-Ok-Err.ensures.path None (ap end_of c.in-Ok-Err.field-0-is) in
@@ -65,19 +64,19 @@ pub returns-in-Err-clause-path : goal.returns-in-Err-clause-path
 returns-in-Err-clause-path c = pend_missed c.in-Err.ensures.missed
 
 pub returns-then-closed-clause-bits : goal.returns-then-closed-clause-bits
-returns-then-closed-clause-bits c = λ _. c.into_maybe-share.ensures.cell.0 ∙ c.share-share.ensures.0
+returns-then-closed-clause-bits c = c.into_maybe-share.ensures.cell.0 ∙ c.share-share.ensures.0
 
 pub returns-in-Rescheduled-clause-bits : goal.returns-in-Rescheduled-clause-bits
-returns-in-Rescheduled-clause-bits c = λ _. let l = subst (λ t. IfOk t (λ r. Leaves c.share-share.result r.1 (not (ends_run r.0)))) c.in-Ok-Ok.field-0-is c.in-Ok-Ok.ensures.share in c.hand_on-hand.ensures.runnable.1.0 ∙ (c.share.ensures.0 ∙ (l.cell.0 ∙ c.share-share.ensures.0))
+returns-in-Rescheduled-clause-bits c = let l = subst (λ t. IfOk t (λ r. Leaves c.share-share.result r.1 (not (ends_run r.0)))) c.in-Ok-Ok.field-0-is c.in-Ok-Ok.ensures.share in c.hand_on-hand.ensures.runnable.1.0 ∙ (c.share.ensures.0 ∙ (l.cell.0 ∙ c.share-share.ensures.0))
 
 pub returns-in-Idle-clause-bits : goal.returns-in-Idle-clause-bits
-returns-in-Idle-clause-bits c = λ _. let l = subst (λ t. IfOk t (λ r. Leaves c.share-share.result r.1 (not (ends_run r.0)))) c.in-Ok-Ok.field-0-is c.in-Ok-Ok.ensures.share in l.cell.0 ∙ c.share-share.ensures.0
+returns-in-Idle-clause-bits c = let l = subst (λ t. IfOk t (λ r. Leaves c.share-share.result r.1 (not (ends_run r.0)))) c.in-Ok-Ok.field-0-is c.in-Ok-Ok.ensures.share in l.cell.0 ∙ c.share-share.ensures.0
 
 pub returns-in-Orphaned-clause-bits : goal.returns-in-Orphaned-clause-bits
-returns-in-Orphaned-clause-bits c = λ _. let l = subst (λ t. IfOk t (λ r. Leaves c.share-share.result r.1 (not (ends_run r.0)))) c.in-Ok-Ok.field-0-is c.in-Ok-Ok.ensures.share in c.hand_on-hand-in-Orphaned.ensures.runnable.1.0 ∙ (c.share-in-Orphaned.ensures.0 ∙ (l.cell.0 ∙ c.share-share.ensures.0))
+returns-in-Orphaned-clause-bits c = let l = subst (λ t. IfOk t (λ r. Leaves c.share-share.result r.1 (not (ends_run r.0)))) c.in-Ok-Ok.field-0-is c.in-Ok-Ok.ensures.share in c.hand_on-hand-in-Orphaned.ensures.runnable.1.0 ∙ (c.share-in-Orphaned.ensures.0 ∙ (l.cell.0 ∙ c.share-share.ensures.0))
 
 pub returns-in-Ok-Err-clause-bits : goal.returns-in-Ok-Err-clause-bits
-returns-in-Ok-Err-clause-bits c = λ _. let same = subst (λ t. IfErr t (λ k. IsSame c.share-share.result k)) c.in-Ok-Err.field-0-is c.in-Ok-Err.ensures.kept in c.into_maybe-share-in-Ok-Err.ensures.cell.0 ∙ (same.0 ∙ c.share-share.ensures.0)
+returns-in-Ok-Err-clause-bits c = let same = subst (λ t. IfErr t (λ k. IsSame c.share-share.result k)) c.in-Ok-Err.field-0-is c.in-Ok-Err.ensures.kept in c.into_maybe-share-in-Ok-Err.ensures.cell.0 ∙ (same.0 ∙ c.share-share.ensures.0)
 
 pub returns-in-Rescheduled-clause-record : goal.returns-in-Rescheduled-clause-record
 returns-in-Rescheduled-clause-record c = let l = subst (λ t. IfOk t (λ r. Leaves c.share-share.result r.1 (not (ends_run r.0)))) c.in-Ok-Ok.field-0-is c.in-Ok-Ok.ensures.share in (c.hand_on-hand.ensures.record.0, c.hand_on-hand.ensures.record.1 ∙ (c.share.ensures.0 ∙ (l.cell.0 ∙ c.share-share.ensures.0)))
@@ -86,4 +85,4 @@ pub returns-in-Orphaned-clause-record : goal.returns-in-Orphaned-clause-record
 returns-in-Orphaned-clause-record c = let l = subst (λ t. IfOk t (λ r. Leaves c.share-share.result r.1 (not (ends_run r.0)))) c.in-Ok-Ok.field-0-is c.in-Ok-Ok.ensures.share in (c.hand_on-hand-in-Orphaned.ensures.record.0, c.hand_on-hand-in-Orphaned.ensures.record.1 ∙ (c.share-in-Orphaned.ensures.0 ∙ (l.cell.0 ∙ c.share-share.ensures.0)))
 
 pub returns-in-Err-clause-bits : goal.returns-in-Err-clause-bits
-returns-in-Err-clause-bits c = λ e. never (sym e)
+returns-in-Err-clause-bits c = c.into_maybe-share-in-Err.ensures.cell.0 ∙ (c.in-Err.ensures.left.0 ∙ c.share-share.ensures.0)

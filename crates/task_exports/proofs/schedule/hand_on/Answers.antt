@@ -13,7 +13,7 @@ pub end-requires-clause-party : goal.end-requires-clause-party
 end-requires-clause-party c = let s = c.requires.party in (s.1, Ended, stands _ _ _ _ _ (handed_on _ _ s.0 s.1 s.3 s.4 c.hand_over-runnable.ensures.path))
 
 pub returns-clause-record : goal.returns-clause-record
-returns-clause-record c = (c.gone.ensures.is_there, c.gone.ensures.cell.0)
+returns-clause-record c = ((c.gone.ensures.is_there, c.gone.ensures.is_last), c.gone.ensures.cell.0)
 
 pub returns-clause-runnable : goal.returns-clause-runnable
 returns-clause-runnable c = let n = c.hand_over-runnable.ensures.runnable in let m = c.into_maybe.ensures in (

@@ -4,32 +4,18 @@ use Rattle.task_cell.specs.WakerPaths.{DropsWaker as CellDrops}
 use Rattle.task_steps.specs.Standing.{as_deliverer}
 use Rattle.task_steps.specs.WakerScripts.{ends_waker}
 use Rattle.task_cell.proofs.Moved.{did_then, stands, limit_is}
-<<<<<<< ours
-use Rattle.task_cell.proofs.Sharing.{same_block, same_limit}
-=======
->>>>>>> theirs
 use Rattle.task_cell.proofs.WakerCalls.{orphan_closed}
 use Rattle.task_exports.specs.Answers.{shared, last_waker, orphan_waker}
 use Rattle.task_exports.proofs.Live.{of_cell, of_limit, lasts_left}
 use Rattle.task_exports.proofs.waker.drop_reference.Goals as goal
 
-<<<<<<< ours
 pub returns-in-Shared-clause-path : goal.returns-in-Shared-clause-path
 returns-in-Shared-clause-path c = let x = subst (CellDrops c.args.hand.party c.drop_reference-found.new.party) c.in-Shared.is c.drop_reference-found.ensures.path in
-    shared x.0 x.1 (c.drop_reference-found.ensures.share.is_there ∙ ap (λ x. not (ends_waker x)) c.in-Shared.is) x.2
+    shared x.0 x.1 (c.drop_reference-found.ensures.share.is_there, c.drop_reference-found.ensures.share.is_last ∙ ap (λ x. not (ends_waker x)) c.in-Shared.is) x.2
 
 pub returns-in-Last-clause-path : goal.returns-in-Last-clause-path
 returns-in-Last-clause-path c = let x = subst (CellDrops c.args.hand.party c.drop_reference-found.new.party) c.in-Last.is c.drop_reference-found.ensures.path in
-    last_waker x.0 x.1 x.2 x.3 (lives_left c.args.hand.share c.drop_reference-found.result.1 c.share-share.result c.args.hand.party _ _ _ _ _ c.requires.hand c.share-share.ensures c.drop_reference-found.ensures.share (ap (λ x. not (ends_waker x)) c.in-Last.is) x.4) x.4
-=======
-pub returns-in-Shared : goal.returns-in-Shared
-returns-in-Shared c = let x = subst (CellDrops c.args.hand.party c.drop_reference-found.new.party) c.in-Shared.is c.drop_reference-found.ensures.path in
-    shared x.0 x.1 (c.drop_reference-found.ensures.share.is_there, c.drop_reference-found.ensures.share.is_last ∙ ap (λ x. not (ends_waker x)) c.in-Shared.is) x.2
-
-pub returns-in-Last : goal.returns-in-Last
-returns-in-Last c = let x = subst (CellDrops c.args.hand.party c.drop_reference-found.new.party) c.in-Last.is c.drop_reference-found.ensures.path in
     last_waker x.0 x.1 x.2 x.3 (lasts_left c.args.hand.share c.drop_reference-found.result.1 c.share-share.result c.args.hand.party _ _ _ _ _ c.requires.hand c.share-share.ensures c.drop_reference-found.ensures.share (ap (λ x. not (ends_waker x)) c.in-Last.is) x.4) x.4
->>>>>>> theirs
 
 pub last-requires : goal.last-requires
 last-requires c = record { last = (c.drop_reference-found.ensures.share.is_there, c.drop_reference-found.ensures.share.is_last ∙ ap (λ x. not (ends_waker x)) c.in-Orphaned.is) }
@@ -49,15 +35,10 @@ hand_on-hand-requires-clause-cell c = let x = orphan_closed _ _ _ (subst (CellDr
 pub hand_on-hand-requires-clause-party : goal.hand_on-hand-requires-clause-party
 hand_on-hand-requires-clause-party c = let x = orphan_closed _ _ _ (subst (CellDrops c.args.hand.party c.drop_reference-found.new.party) c.in-Orphaned.is c.drop_reference-found.ensures.path) c.close_orphan-owned.ensures.path in (as_deliverer, Nothing, refl, refl, stands _ _ _ _ _ x)
 
-<<<<<<< ours
 pub returns-in-Orphaned-clause-path : goal.returns-in-Orphaned-clause-path
-returns-in-Orphaned-clause-path c = let x = subst (CellDrops c.args.hand.party c.drop_reference-found.new.party) c.in-Orphaned.is c.drop_reference-found.ensures.path in let y = c.close_orphan.ensures in
-=======
-pub returns-in-Orphaned : goal.returns-in-Orphaned
-returns-in-Orphaned c = let x = subst (CellDrops c.args.hand.party c.drop_reference-found.new.party) c.in-Orphaned.is c.drop_reference-found.ensures.path in let y = c.close_orphan-owned.ensures.path in
->>>>>>> theirs
+returns-in-Orphaned-clause-path c = let x = subst (CellDrops c.args.hand.party c.drop_reference-found.new.party) c.in-Orphaned.is c.drop_reference-found.ensures.path in let y = c.close_orphan-owned.ensures.path in
     orphan_waker x.0 y.0 c.hand_on-hand.result.1.party x.1 x.2 c.hand_on-hand.ensures.runnable.0 c.hand_on-hand.ensures.runnable.2
     (did_then _ _ _ (row OrphanTask x.0 ∷ row CloseOrphan y.0 ∷ []) (act HandOver ∷ act EndCall ∷ []) as_deliverer as_ended [] [] (orphan_closed _ _ _ x y) c.hand_on-hand.ensures.ended)
 
 pub returns-in-Orphaned-clause-record : goal.returns-in-Orphaned-clause-record
-returns-in-Orphaned-clause-record c = (c.hand_on-hand.ensures.record.0, c.hand_on-hand.ensures.record.1 ∙ (c.share-owned.ensures.0 ∙ (c.drop_reference-found.ensures.share.cell.0 ∙ c.share-share.ensures.0)))
+returns-in-Orphaned-clause-record c = (c.hand_on-hand.ensures.record.0, c.hand_on-hand.ensures.record.1 ∙ (c.close_orphan-owned.ensures.share.0 ∙ (c.last.ensures.0 ∙ (c.drop_reference-found.ensures.share.cell.0 ∙ c.share-share.ensures.0))))

@@ -1,7 +1,7 @@
 -- `wake_share` lends the export what a `&` to a share has, and the bits of that share.
 use Rattle.task_exports.proofs.LentWalks.{ !, [], ◌∷◌, ◌≡◌, refl, proved, after, ftrue, flft, fact, named, tables, ‵, raw, ◌⊛◌, some, later, await, at_ret, ◌$◌, ◌∵◌, qed, done, move, keep, use0, use1, use2, split, join, fsplit, fjoin, feq_i, pick, suffices, enter, of_opd, load, look, stop, addr, no_more, and_then, first, blocks, exec, returns, alloc_all, pass_all, free_all, look_at, get, through, sets, sets_last, lands_as, env, yes, shows, Is, Ptr, ptr_val, rawptr_vals, rawptr_Lawful, plain, nothing, heard, drop, peeks, id⊢, emp, fact_i, Stays, walk_of, says, stay_dropped, Goes-dropped, ends_at, Lft, Share, RefOf, shr_vals, shr_Tells, calls_at, lasts, triple_of, framed}
 use Rattle.task_exports.proofs.Shown.{bits_in, bits_out, shows_bits}
-use Rattle.task_exports.specs.Answers.{Comes, Wakes}
+use Rattle.task_exports.specs.Answers.{Wakes}
 use Rattle.task_exports.specs.Lent.{IsShareOf, Loan}
 use Rattle.task_exports.specs.declared.hand.Hand.{Hand}
 use Rattle.task_exports.specs.declared.hand.Lent.{Lent}
@@ -22,7 +22,7 @@ abbrev stayed : Stays f.ended.signature.params f.ended.kept
 stayed = (stay_dropped (RefOf (0 ∷ []) tt (plain (λ _. Row)) (λ _. tt)) yes, tt)
 
 abbrev Says : Lent → Brings → Type 0
-Says x r = (y : Hand) → IsShareOf y x → Comes (λ k n. Wakes y k n) r.brought.hand r.number
+Says x r = (y : Hand) → IsShareOf y x → Wakes y r.brought.hand r.number
 
 pub wake_share_spec : {M : Type 1} → statement M
 wake_share_spec 𝓤 𝓛 𝓜 𝓡 wired =

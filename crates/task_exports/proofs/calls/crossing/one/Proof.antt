@@ -1,4 +1,4 @@
--- `second` takes what was brought as what is left of a handle.
+-- `one` takes what was brought as what is left of a handle.
 use Rattle.task_exports.proofs.Walks.{ !, [], ◌∷◌, refl, ◌≡◌, true, proved, Goes-blank, ftrue, fact, ‵, raw, ◌⊛◌, ◌$◌, ◌∵◌, qed, done, move, keep, use0, split, join, fsplit, fjoin, rewrite, suffices, enter, no_more, agg, returns, alloc_all, pass_all, free_all, look_at, sets, yes, rest, shows, Is, RattleType, plain, nothing, heard, peeks, Stays, walk_of, says, stay_dropped, ends_at, makes_shadow, Struct, shape}
 use Rattle.std.specs.Prelude.{Option, Some, None, is_some}
 use Rattle.task_exports.specs.Places.{owned_if}
@@ -6,9 +6,9 @@ use Rattle.task_exports.specs.contracts.bits.Brought as brought
 use Rattle.task_exports.specs.contracts.bits.Left as left
 use Rattle.task_exports.proofs.bits.Brought.TheLaws.{lowers, the_row_laws as laws}
 use Rattle.task_exports.specs.declared.hand.Hand.{Hand}
-use Rattle.task_exports.specs.contracts.calls.crossing.second as contract
-use Rattle.task_exports.proofs.calls.crossing.second.Statement.{statement}
-use Rattle.task_exports.proofs.calls.crossing.second.Code as code
+use Rattle.task_exports.specs.contracts.calls.crossing.one as contract
+use Rattle.task_exports.proofs.calls.crossing.one.Statement.{statement}
+use Rattle.task_exports.proofs.calls.crossing.one.Code as code
 use Rattle.task_exports.proofs.Filled.{nil_val}
 
 abbrev From : RattleType
@@ -25,8 +25,8 @@ there (Some k) e = (k, refl)
 abbrev kept : Stays contract.ended.signature.params contract.ended.kept
 kept = (stay_dropped (plain (λ _. From)) yes, tt)
 
-pub second_spec : {M : Type 1} → statement M
-second_spec 𝓤 𝓛 𝓜 𝓡 wired =
+pub one_spec : {M : Type 1} → statement M
+one_spec 𝓤 𝓛 𝓜 𝓡 wired =
     let claims = contract.clauses 𝓛 𝓜.mem 𝓡.returns in let W = walk_of 𝓛 contract.ended kept claims in
     proved 𝓛 contract.ended kept claims 𝓜 𝓡 (Goes-blank 𝓛 0 (plain (λ _. From)) yes (λ κs x w. tt), tt)
     contract.Key.name code.function (code.unfolded 𝓤 𝓛.H 𝓜 𝓡 wired)
