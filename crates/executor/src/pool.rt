@@ -103,7 +103,7 @@ impl<'x, R: Wait + Drop + Copy, F: Yields, A: Wake, B: Allocator + Copy, M: Drop
             return;
         }
         let filled = pool.fill(worker, due);
-        pool.look_again(filled);
+        let _ = pool.look_again(filled);
     }
 }
 
