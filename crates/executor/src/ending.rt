@@ -1,14 +1,29 @@
 //! The two ends of a pool: it finishes what is queued, or it is shut down.
-ghost use Rattle.std.specs.Prelude.{IfSome};
+ghost use Rattle.std.specs.Prelude.{◌≡◌, IfSome, IfErr};
 ghost use Rattle.std.specs.Arc.{arc_value};
 ghost use Rattle.work_queues.specs.Duties.{SawNothing};
 
+use crate::due::DueRunnable;
 use crate::kept::cancel_kept;
 use crate::pool::Pool;
+use crate::stage::NotShutDown;
 use async_task::{Wake, Yields};
 use std::alloc::Allocator;
 use std::sync::Wait;
 use work_queues::bells::NothingShown;
+
+/// A queue was filled, which a shutdown may have passed before. It has no `Drop`, so it ends in `Pool::look_again`.
+pub(crate) struct Filled {
+    queue: usize,
+}
+
+/// What a queue had was cancelled. Only `Pool::cancel_queue` makes one.
+#[derive(Drop)]
+pub(crate) struct QueueCancelled {
+    queue: usize,
+    // How many Runnables it had.
+    count: usize,
+}
 
 impl<R: Wait + Drop + Copy, F: Yields, A: Wake, B: Allocator + Copy, M: Drop> Pool<R, F, A, B, M> {
     /// Takes no more tasks, and ends each worker, as `run`, `work` or `await_next`, once it finds nothing queued. What a task that still runs queues, its worker runs before it ends. It does not wait for that: join the threads of the workers.
@@ -45,7 +60,7 @@ impl<R: Wait + Drop + Copy, F: Yields, A: Wake, B: Allocator + Copy, M: Drop> Po
     fn cancel_each_queue(&self) -> usize {
         let mut cancelled = 0usize;
         for queue in 0..=self.workers() {
-            cancelled = cancelled.saturating_add(self.cancel_queue(queue));
+            cancelled = cancelled.saturating_add(self.cancel_queue(queue).count);
         }
         cancelled
     }
@@ -71,8 +86,31 @@ impl<R: Wait + Drop + Copy, F: Yields, A: Wake, B: Allocator, M: Drop> Pool<R, F
         Some(none)
     }
 
-    // Cancels the Runnables of a queue: how many there were. As of `Crew::pop`, no clause says which queue.
-    pub(crate) fn cancel_queue(&self, queue: usize) -> usize {
+    // Puts a Runnable into a queue. Where there is no memory for it, it is cancelled: the call answers nothing of that, since a schedule call answers nothing.
+    pub(crate) fn fill(&self, queue: usize, due: DueRunnable<R, F, A, M>) -> Filled
+        ensures { result.queue ≡ queue }
+    {
+        if let Err(refused) = self.crew.push(&self.rt, queue, due) {
+            refused.cancel();
+        }
+        Filled { queue }
+    }
+
+    // Looks for a shutdown that may have passed a queue before it was filled, and cancels what is there then.
+    pub(crate) fn look_again(&self, filled: Filled) -> Result<NotShutDown, QueueCancelled>
+        ensures { IfErr result (λ cancelled. cancelled.queue ≡ filled.queue) }
+    {
+        let Filled { queue } = filled;
+        match self.stage.look() {
+            Some(seen) => Ok(seen),
+            None => Err(self.cancel_queue(queue)),
+        }
+    }
+
+    // Cancels the Runnables of a queue. As of `Crew::pop`, no clause says which were there.
+    pub(crate) fn cancel_queue(&self, queue: usize) -> QueueCancelled
+        ensures { result.queue ≡ queue }
+    {
         let mut cancelled = 0usize;
         for _ in self.rt.forever() {
             match self.crew.pop(&self.rt, queue) {
@@ -80,7 +118,10 @@ impl<R: Wait + Drop + Copy, F: Yields, A: Wake, B: Allocator, M: Drop> Pool<R, F
                     due.cancel();
                     cancelled = cancelled.saturating_add(1);
                 }
-                None => return cancelled,
+                None => return QueueCancelled {
+                    queue,
+                    count: cancelled,
+                },
             }
         }
         unreachable!()

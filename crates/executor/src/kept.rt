@@ -1,11 +1,13 @@
 //! Wakers and Tasks that futures keep: the pool has them by number, and a future has the keys.
 ghost use Rattle.std.specs.Prelude.{⊤, ◌≡◌, IfSome, IfErr};
+ghost use Rattle.std.specs.Arc.{arc_value};
 ghost use Rattle.task_cell.specs.PollPaths.{IfOutput};
 ghost use Rattle.executor.specs.Outputs.{IsYielded};
+ghost use Rattle.executor.specs.Wakes.{IsForKept};
 
 use crate::bell_awaiter::BellAwaiter;
 use crate::due::DueRunnable;
-use crate::pool::{Place, PoolTask, PoolWaker, ToPool};
+use crate::pool::{Place, Pool, PoolTask, PoolWaker, ToPool};
 use crate::store::{Key, Walk};
 use async_task::{
     Runnable, Schedule, ScheduleInfo, StoredWaker, Task, TaskClosed, TaskPoll, Wake, Yields,
@@ -70,20 +72,46 @@ pub fn keep_waker<'x, R: Wait + Drop + Copy, F: Yields, A: Wake, B: Allocator + 
     waker: &PoolWaker<'x, R, F, A, B, M>,
     key: &Key<R>,
 ) -> bool {
+    keep_at(waker, key).is_some()
+}
+
+// A task's waker was kept under this number. Only `keep_at` makes one.
+#[derive(Drop)]
+struct WakerKept {
+    number: usize,
+}
+
+impl WakerKept {
+    // An awaiter that has a worker wake that task, as `BellAwaiter::of_kept`.
+    fn awaiter<R: Wait + Drop + Copy, F: Yields, A: Wake, B: Allocator + Copy, M: Drop>(
+        self,
+        pool: &Pool<R, F, A, B, M>,
+    ) -> Option<BellAwaiter<R>>
+        ensures { IfSome result (λ awaiter. IsForKept awaiter.wakes (arc_value pool.now.crew.bells) (arc_value pool.now.mail) self.number) }
+    {
+        BellAwaiter::of_kept(pool, self.number)
+    }
+}
+
+// Keeps a clone of a waker at the place of a key, as `keep_waker` does.
+fn keep_at<'x, R: Wait + Drop + Copy, F: Yields, A: Wake, B: Allocator + Copy, M: Drop>(
+    waker: &PoolWaker<'x, R, F, A, B, M>,
+    key: &Key<R>,
+) -> Option<WakerKept> {
     let place = waker.around();
     let pool = place.0;
-    let Ok(clone) = waker.try_clone() else {
-        return false;
-    };
+    let clone = waker.try_clone().ok()?;
     match pool.wakers.put(&pool.rt, key, clone.stored()) {
         Ok(before) => {
             drop_waker(place, before);
             wake_after_shutdown(place, key);
-            true
+            Some(WakerKept {
+                number: key.number(),
+            })
         }
         Err(clone) => {
             drop_waker(place, Some(clone));
-            false
+            None
         }
     }
 }
@@ -190,10 +218,10 @@ pub fn await_kept<'x, R: Wait + Drop + Copy, F: Yields, B: Allocator + Copy, M: 
     ensures yielded { IfSome result (λ answer. IfOutput answer (IsYielded F.Yields.moves)) }
 {
     let place = waker.around();
-    if !keep_waker(waker, own) {
+    let Some(kept) = keep_at(waker, own) else {
         return Some(TaskPoll::Refused);
-    }
-    match BellAwaiter::of_kept(place.0, own.number()) {
+    };
+    match kept.awaiter(place.0) {
         Some(awaiter) => poll_kept(place, awaited, &awaiter),
         None => Some(TaskPoll::Refused),
     }

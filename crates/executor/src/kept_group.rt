@@ -30,6 +30,10 @@ pub struct KeptGroup<R: Wait + Drop + Copy> {
     keys: Vec<Key<R>>,
 }
 
+// The group listens: the next post wakes its task. Only `KeptGroup::listens` makes one.
+#[derive(Drop)]
+struct Listening(());
+
 impl<R: Wait + Drop + Copy> KeptGroup<R> {
     /// An empty group with room for `room` members at a time, or a few more. All its memory and its places are taken here. `place` is `waker.around()` in a poll of the task that awaits. `None` where there was no memory.
     pub fn new<'x, F: Yields, A: Wake, B: Allocator + Copy, M: Drop>(
@@ -106,14 +110,14 @@ impl<R: Wait + Drop + Copy> KeptGroup<R> {
         if self.members.is_empty() {
             return TaskPoll::Ready(None);
         }
-        if !self.listens(waker) {
+        let Some(listening) = self.listens(waker) else {
             return TaskPoll::Refused;
-        }
+        };
         for _ in 0..self.members.capacity() {
             let Some(number) = self.mailbox.take() else {
                 return TaskPoll::Pending;
             };
-            match self.look(waker.around(), number) {
+            match self.look(&listening, waker.around(), number).0 {
                 TaskPoll::Ready(answer) => return TaskPoll::Ready(Some((number, answer))),
                 TaskPoll::Refused => return TaskPoll::Refused,
                 TaskPoll::Pending => {}
@@ -165,43 +169,45 @@ impl<R: Wait + Drop + Copy> KeptGroup<R> {
     fn listens<'x, F: Yields, B: Allocator + Copy, M: Drop>(
         &self,
         waker: &PoolWaker<'x, R, F, BellAwaiter<R>, B, M>,
-    ) -> bool {
+    ) -> Option<Listening> {
         let pool = waker.around().0;
-        let Some(rings) = Rings::for_kept(pool.bells(), &pool.mail, self.own.number()) else {
-            return false;
-        };
+        let rings = Rings::for_kept(pool.bells(), &pool.mail, self.own.number())?;
         if !keep_waker(waker, &self.own) {
-            return false;
+            return None;
         }
         self.mailbox.listen(PoolListener { rings });
-        true
+        Some(Listening(()))
     }
 
-    // Polls the member of this number, if there is one, and takes it out where it has ended. Where the poll is refused, a later call polls it again.
+    // Polls the member of this number, if there is one, and takes it out where it has ended. Where the poll is refused, its number is posted again, so that a later call polls it.
     fn look<'x, F: Yields, B: Allocator + Copy, M: Drop>(
         &mut self,
+        listening: &Listening,
         place: Place<'x, R, F, BellAwaiter<R>, B, M>,
         number: usize,
-    ) -> TaskPoll<Result<F::Output, TaskClosed>>
-        ensures meets { IfOutput result (λ output. ∥ F.Yields.meets output ∥₁) }
-        ensures yielded { IfOutput result (IsYielded F.Yields.moves) }
-        ensures leaves { IsReady result → Leaves self.old.members self.new.members number }
-        ensures stays { HasNone result → SameMembers self.old.members self.new.members }
+    ) -> (TaskPoll<Result<F::Output, TaskClosed>>, Option<Told>)
+        ensures meets { IfOutput result.0 (λ output. ∥ F.Yields.meets output ∥₁) }
+        ensures yielded { IfOutput result.0 (IsYielded F.Yields.moves) }
+        ensures leaves { IsReady result.0 → Leaves self.old.members self.new.members number }
+        ensures stays { HasNone result.0 → SameMembers self.old.members self.new.members }
         ensures room { self.new.members.capacity ≡ self.old.members.capacity }
-        ensures len { HasNone result → slab_len self.new.members ≡ slab_len self.old.members }
+        ensures len { HasNone result.0 → slab_len self.new.members ≡ slab_len self.old.members }
+        ensures refused { result.0 ≡ TaskPoll.Refused → IsSome result.1 }
+        ensures told { IfSome result.1 (λ told. told.number ≡ number) }
     {
+        let Listening(()) = listening;
         if self.members.try_remove(number).is_none() {
-            return TaskPoll::Pending;
+            return (TaskPoll::Pending, None);
         }
         let polled = self.poll_member(place, number);
         if matches!(polled, TaskPoll::Ready(_)) {
-            return polled;
+            return (polled, None);
         }
         self.members.insert_reserved(());
         if matches!(polled, TaskPoll::Refused) {
-            self.mailbox.post(number);
+            return (polled, Some(tell(&self.mailbox, number)));
         }
-        polled
+        (polled, None)
     }
 
     // Polls the Task at the place of this number. Where there is none, a shutdown has dropped it.

@@ -102,13 +102,8 @@ impl<'x, R: Wait + Drop + Copy, F: Yields, A: Wake, B: Allocator + Copy, M: Drop
             due.cancel();
             return;
         }
-        if let Err(refused) = pool.crew.push(&pool.rt, worker, due) {
-            refused.cancel();
-        }
-        // A shutdown meanwhile may have passed this queue already.
-        if pool.is_shut_down() {
-            pool.cancel_queue(worker);
-        }
+        let filled = pool.fill(worker, due);
+        let _ = pool.look_again(filled);
     }
 }
 

@@ -23,6 +23,10 @@ pub(crate) struct Stage {
     word: AtomicU64,
 }
 
+/// A look that found no shutdown. Only `Stage::look` makes one.
+#[derive(Drop)]
+pub(crate) struct NotShutDown(());
+
 /// The pool takes no more tasks, which spawns that have a queue and workers that sleep do not know yet. It has no `Drop`, so it ends in `Stage::end`.
 pub(crate) struct Closing(());
 
@@ -47,6 +51,14 @@ impl Stage {
     // Whether the pool was shut down. No clause says what the word shows.
     pub(crate) fn is_shut_down(&self) -> bool {
         self.word.load(Ordering::SeqCst) == SHUT_DOWN
+    }
+
+    // A look for a shutdown, of which nothing is seen. As of `is_shut_down`, no clause says so.
+    pub(crate) fn look(&self) -> Option<NotShutDown> {
+        if self.is_shut_down() {
+            return None;
+        }
+        Some(NotShutDown(()))
     }
 
     // The pool takes no more tasks. `None` where that was so already. No clause says so: only this and `shut_down` make a `Closing`, and only `end` ends it.
