@@ -55,7 +55,7 @@ fn work_both<R: Wait + Clock + Threads + Drop + Copy + Send + Sync>(
     pool: &JobPool<R>,
     timers: &JobTimers<R>,
 ) {
-    thread::join(&pool.rt(), || run(pool, 0), || run(pool, 1));
+    let _ = thread::join(&pool.rt(), || run(pool, 0), || run(pool, 1));
     timers.close();
 }
 
