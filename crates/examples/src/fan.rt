@@ -2,7 +2,7 @@
 ghost use Rattle.std.specs.Prelude.{⊤};
 
 use async_task::{Future, Poll, Yields};
-use executor::{BellAwaiter, Pool, PoolGroup, PoolWaker, Turns};
+use executor::{BellAwaiter, Pool, PoolGroup, PoolWaker, Turns, generic};
 use std::alloc::Global;
 use std::ops::Range;
 use std::sync::Wait;
@@ -73,13 +73,13 @@ fn spawn_parts<'x, R: Wait + Drop + Copy>(
 }
 
 // Adds up what all members answer. The first one that fails cancels the others.
-fn sum_of<'x, R: Wait + Drop + Copy + 'static>(
+fn sum_of<'x, R: Wait + Drop + Copy>(
     turns: &mut SumTurns<'x, R>,
     group: &mut SumGroup<'x, R>,
 ) -> Result<u64, Failed> {
     let mut sum = 0u64;
     for _ in 0..PARTS {
-        let answer = match turns.next_member(group) {
+        let answer = match generic::next_member(turns, group) {
             Ok(Some(ended)) => ended.answer.unwrap_or(Err(Failed::Closed)),
             _ => Err(Failed::Closed),
         };
@@ -94,19 +94,15 @@ fn sum_of<'x, R: Wait + Drop + Copy + 'static>(
     Ok(sum)
 }
 
-fn run_worker<R: Wait + Drop + Copy + 'static>(pool: &SumPool<R>) {
-    drop(pool.run(1));
-}
-
 // Waits for the members on this thread, which runs tasks meanwhile, as another one does.
-fn run<'x, R: Wait + Threads + Drop + Copy + Send + Sync + 'static>(
+fn run<'x, R: Wait + Threads + Drop + Copy + Send + Sync>(
     pool: &'x SumPool<R>,
     turns: &mut SumTurns<'x, R>,
     group: &mut SumGroup<'x, R>,
 ) -> Result<u64, Failed> {
     let (_, sum) = thread::join(
         &pool.rt(),
-        || run_worker(pool),
+        || generic::run(pool, 1),
         || {
             let sum = sum_of(turns, group);
             pool.shutdown();
@@ -116,7 +112,7 @@ fn run<'x, R: Wait + Threads + Drop + Copy + Send + Sync + 'static>(
     sum
 }
 
-fn run_in<R: Wait + Threads + Drop + Copy + Send + Sync + 'static>(
+fn run_in<R: Wait + Threads + Drop + Copy + Send + Sync>(
     pool: &SumPool<R>,
     failing: Option<u64>,
 ) -> Option<Result<u64, Failed>> {
@@ -127,7 +123,7 @@ fn run_in<R: Wait + Threads + Drop + Copy + Send + Sync + 'static>(
 }
 
 /// The sum of the numbers below 80, or which part of them failed: `failing`, if there is such a part. `None` where there was no memory.
-pub fn sum_in_parts<R: Wait + Threads + Drop + Copy + Send + Sync + 'static>(
+pub fn sum_in_parts<R: Wait + Threads + Drop + Copy + Send + Sync>(
     rt: R,
     alloc: Global,
     failing: Option<u64>,

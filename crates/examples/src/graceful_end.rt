@@ -52,7 +52,7 @@ fn accept<'x, R: Wait + Drop + Copy>(
 }
 
 // Runs tasks until all that were tracked are gone, or the time is over. `None` where there is no awaiter.
-fn run_until_gone<'x, R: Wait + Clock + Drop + Copy + 'static>(
+fn run_until_gone<'x, R: Wait + Clock + Drop + Copy>(
     pool: &'x Server<R>,
     turns: &mut Turns<'x, R, Served<R>, BellAwaiter<R>>,
     gone: &mut Gone<R>,
@@ -77,7 +77,7 @@ fn run_until_gone<'x, R: Wait + Clock + Drop + Copy + 'static>(
 }
 
 /// How many of three requests are left at the end, of which one waits for ever, and how many once they are cancelled. `None` where memory or the clock was refused.
-pub fn left_and_cancelled<R: Wait + Clock + Drop + Copy + 'static>(
+pub fn left_and_cancelled<R: Wait + Clock + Drop + Copy>(
     rt: R,
     alloc: Global,
 ) -> Option<(usize, usize)> {

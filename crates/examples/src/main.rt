@@ -100,7 +100,7 @@ where
 // The tasks of pools that know their futures by a type of their own.
 fn print_of_pools<R>(rt: R, alloc: Global) -> io::Result<()>
 where
-    R: Print + Wait + Clock + Threads + Drop + Copy + Send + Sync + 'static,
+    R: Print + Wait + Clock + Threads + Drop + Copy + Send + Sync,
 {
     print(rt, "sharing", sharing::sum_of_numbers(rt, alloc))?;
     print(rt, "fan", fan::sum_in_parts(rt, alloc, None))?;

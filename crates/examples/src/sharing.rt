@@ -3,7 +3,7 @@ ghost use Rattle.std.specs.Prelude.{⊤};
 
 use async_task::{Future, Poll, Wake, Yields};
 use executor::shared_waker::{PoolSharedWaker, Sharing};
-use executor::{BellAwaiter, Pool, PoolGroup, PoolWaker, Turns};
+use executor::{BellAwaiter, Pool, PoolGroup, PoolWaker, Turns, generic};
 use future_parts::{Join, YieldNow, join, yield_now};
 use std::alloc::Global;
 use std::sync::Wait;
@@ -74,13 +74,13 @@ fn spawn_all<'x, R: Wait + Drop + Copy>(
 }
 
 // What all members answer, added up. This worker runs tasks meanwhile.
-fn add_up<'x, R: Wait + Drop + Copy + 'static>(
+fn add_up<'x, R: Wait + Drop + Copy>(
     turns: &mut OwnTurns<'x, R>,
     group: &mut OwnGroup<'x, R>,
 ) -> u64 {
     let mut sum = 0u64;
     for _ in 0..MEMBERS {
-        match turns.next_member(group) {
+        match generic::next_member(turns, group) {
             Ok(Some(ended)) => sum = sum.saturating_add(ended.answer.unwrap_or(0)),
             _ => return sum,
         }
@@ -88,19 +88,15 @@ fn add_up<'x, R: Wait + Drop + Copy + 'static>(
     sum
 }
 
-fn run_worker<R: Wait + Drop + Copy + 'static>(pool: &OwnPool<R>) {
-    drop(pool.run(1));
-}
-
 // Runs the tasks on this thread and another one, until all members have ended.
-fn run<'x, R: Wait + Threads + Drop + Copy + Send + Sync + 'static>(
+fn run<'x, R: Wait + Threads + Drop + Copy + Send + Sync>(
     pool: &'x OwnPool<R>,
     turns: &mut OwnTurns<'x, R>,
     group: &mut OwnGroup<'x, R>,
 ) -> u64 {
     let (_, sum) = thread::join(
         &pool.rt(),
-        || run_worker(pool),
+        || generic::run(pool, 1),
         || {
             let sum = add_up(turns, group);
             pool.shutdown();
@@ -110,9 +106,7 @@ fn run<'x, R: Wait + Threads + Drop + Copy + Send + Sync + 'static>(
     sum
 }
 
-fn run_in<R: Wait + Threads + Drop + Copy + Send + Sync + 'static>(
-    pool: &OwnPool<R>,
-) -> Option<u64> {
+fn run_in<R: Wait + Threads + Drop + Copy + Send + Sync>(pool: &OwnPool<R>) -> Option<u64> {
     let mut group = OwnGroup::new(pool.rt(), pool.alloc(), MEMBERS as usize).ok()?;
     spawn_all(pool, &mut group)?;
     let mut turns = pool.turns(0).ok()?;
@@ -120,7 +114,7 @@ fn run_in<R: Wait + Threads + Drop + Copy + Send + Sync + 'static>(
 }
 
 /// The sum of the numbers of ten tasks. `None` where there was no memory.
-pub fn sum_of_numbers<R: Wait + Threads + Drop + Copy + Send + Sync + 'static>(
+pub fn sum_of_numbers<R: Wait + Threads + Drop + Copy + Send + Sync>(
     rt: R,
     alloc: Global,
 ) -> Option<u64> {

@@ -4,6 +4,7 @@ mod job;
 mod server;
 mod source;
 
+use executor::generic::run;
 use executor::shared_waker::PoolSharedWaker;
 use future_parts::{Semaphore, channel};
 use future_time::Timers;
@@ -49,22 +50,17 @@ fn spawn<R: Wait + Clock + Drop + Copy>(
     Ok(())
 }
 
-// Is a worker until the shutdown: whether there was such a worker.
-fn work<R: Wait + Clock + Drop + Copy + 'static>(pool: &JobPool<R>, worker: usize) -> bool {
-    pool.run(worker).is_ok()
-}
-
 // Runs two workers until the last task has shut the pool down, and ends the thread that drives the timers.
-fn work_both<R: Wait + Clock + Threads + Drop + Copy + Send + Sync + 'static>(
+fn work_both<R: Wait + Clock + Threads + Drop + Copy + Send + Sync>(
     pool: &JobPool<R>,
     timers: &JobTimers<R>,
 ) {
-    thread::join(&pool.rt(), || work(pool, 0), || work(pool, 1));
+    let _ = thread::join(&pool.rt(), || run(pool, 0), || run(pool, 1));
     timers.close();
 }
 
 // Runs all threads to their end, and answers whether there was one that drives the timers.
-fn run<R: Wait + Clock + Threads + Drop + Copy + Send + Sync + 'static>(
+fn run_all<R: Wait + Clock + Threads + Drop + Copy + Send + Sync>(
     pool: &JobPool<R>,
     timers: &JobTimers<R>,
 ) -> bool {
@@ -78,7 +74,7 @@ fn run<R: Wait + Clock + Threads + Drop + Copy + Send + Sync + 'static>(
 }
 
 /// How many requests were served, and how many were not in time. `None` where memory, the clock or a thread for the timers was refused.
-pub fn served_and_late<R: Wait + Clock + Threads + Drop + Copy + Send + Sync + 'static>(
+pub fn served_and_late<R: Wait + Clock + Threads + Drop + Copy + Send + Sync>(
     rt: R,
     alloc: Global,
 ) -> Option<(u64, u64)> {
@@ -86,7 +82,7 @@ pub fn served_and_late<R: Wait + Clock + Threads + Drop + Copy + Send + Sync + '
     let tally = Arc::new(alloc, Tally::new(SERVERS as u64 + 1)).ok()?;
     let pool = JobPool::new(rt, alloc, 2).ok()?;
     spawn_all(&pool, &timers, &tally).ok()?;
-    if !run(&pool, &timers) {
+    if !run_all(&pool, &timers) {
         return None;
     }
     Some(tally.counts())

@@ -1,6 +1,0 @@
-use contract.BorrowLft.{⊑_static, ⊑_trans}
-use Rattle.examples.proofs.fan.sum_of.Goals as goal
-
--- The runtime lives for ever, so it outlives the pool.
-pub next_member-requires-lives-F-Future : goal.next_member-requires-lives-F-Future
-next_member-requires-lives-F-Future g c κs within = ⊑_trans _ _ _ (⊑_static _) c.type_bounds.static-R
