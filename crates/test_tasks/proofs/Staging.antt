@@ -42,10 +42,10 @@ module _ (id : ℕ) (me : Me (Place ℕ ℕ) ℕ) (first : id ≡ 0) (from : ℕ
   pub gives : (f : ℕ → ℕ) → f (shares_at from) + 1 ≡ shares_at from → true ≡ eqb (f (shares_at from)) 0 → Less {S = Place ℕ ℕ} Taken (λ n. n) id me.0 f (λ _. true) (λ _. true)
   gives f one last s h at = let is : word_of s ≡ shares_at from = ap (λ (ns : List ℕ). slice_index ns 0) (shared s h at) in inr (refl, ap (λ (n : ℕ). f n + 1) is ∙ one ∙ sym is, last ∙ sym (ap (λ (n : ℕ). eqb (f n) 0) is))
 
-some_stage : 1 ≡ 0 → ⊥
+some_stage : ◌≡◌ {A = ℕ} 1 0 → ⊥
 some_stage e = omega (arith, e)
 
-pub gone_stage : ¬ (2 ≡ 0)
+pub gone_stage : ¬ (◌≡◌ {A = ℕ} 2 0)
 gone_stage e = omega (arith, e)
 
 pub may_take : (id : ℕ) (me : Me (Place ℕ ℕ) ℕ) → id ≡ 0 → me ≡ (0, []) → Allows Taken 2 id me 0 (λ n. n) (λ _ after. (x : ℕ) × (y : ℕ) × (after ≡ (1, (1, Second y) ∷ (0, First x) ∷ [])))
