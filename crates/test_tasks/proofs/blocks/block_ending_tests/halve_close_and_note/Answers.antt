@@ -23,12 +23,12 @@ load-requires-clause-allowed c = let two = c.part-maybe.ensures.seat in let seat
 pub revive-again-requires-clause-allowed : goal.revive-again-requires-clause-allowed
 revive-again-requires-clause-allowed c = let look = c.load.ensures.seat in let seat = c.load.new.seat in steps seat.id seat.me (look.1 ∙ c.part-maybe.ensures.seat.1 ∙ c.part_exchange-found.ensures.seat.1 ∙ c.new_pair-share.ensures.seat.1) 2 look.2.1 (λ _. 1) 1 refl
 
-pub part-maybe-2-requires-clause-allowed : goal.part-maybe-2-requires-clause-allowed
-part-maybe-2-requires-clause-allowed c = let again = c.revive-again.ensures.seat in let seat = c.revive-again.new.seat in
+pub part-maybe-requires-2-clause-allowed : goal.part-maybe-requires-2-clause-allowed
+part-maybe-requires-2-clause-allowed c = let again = c.revive-again.ensures.seat in let seat = c.revive-again.new.seat in
     steps seat.id seat.me (again.1 ∙ c.load.ensures.seat.1 ∙ c.part-maybe.ensures.seat.1 ∙ c.part_exchange-found.ensures.seat.1 ∙ c.new_pair-share.ensures.seat.1) 1 again.2.1 (λ n. (n + (2 ^ 64 - 1)) % 2 ^ 64) 2 refl
 
-pub part-maybe-2-requires-clause-shares : goal.part-maybe-2-requires-clause-shares
-part-maybe-2-requires-clause-shares c = let again = c.revive-again.ensures.seat in let seat = c.revive-again.new.seat in
+pub part-maybe-requires-2-clause-shares : goal.part-maybe-requires-2-clause-shares
+part-maybe-requires-2-clause-shares c = let again = c.revive-again.ensures.seat in let seat = c.revive-again.new.seat in
     fewer seat.id seat.me (again.1 ∙ c.load.ensures.seat.1 ∙ c.part-maybe.ensures.seat.1 ∙ c.part_exchange-found.ensures.seat.1 ∙ c.new_pair-share.ensures.seat.1) 1 again.2.1 (λ n. (n + (2 ^ 64 - 1)) % 2 ^ 64) (λ _. true) (λ _. true) refl refl refl
 
 -- src/ending_tests.rt:61:5

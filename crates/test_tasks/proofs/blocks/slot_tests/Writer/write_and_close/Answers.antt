@@ -17,9 +17,9 @@ first_mut-requires c =
 
 -- src/slot_tests.rt:85:25
 pub part-maybe-requires : goal.part-maybe-requires
-part-maybe-requires c = let seat = c.swap_first-left.new.seat in let view = ap (λ (me : Me (Place ℕ ℕ) ℕ). me.0) in
+part-maybe-requires c = let seat = c.swap_first-left.new.seat in
     let first = c.swap_first-left.ensures.1 ∙ c.swap_first-was.ensures.1 ∙ c.turn.ensures.1 ∙ c.swap_second-second.ensures.1 ∙ c.load.ensures.seat.1 ∙ c.args.self.seated.2 in
-    let now = view c.swap_first-left.ensures.3 ∙ view c.swap_first-was.ensures.3 ∙ view c.turn.ensures.2 ∙ view c.swap_second-second.ensures.3 ∙ view c.load.ensures.seat.2.2 in record {
+    let now = ap (λ (me : Me (Place ℕ ℕ) ℕ). me.0) c.swap_first-left.ensures.3 ∙ ap (λ (me : Me (Place ℕ ℕ) ℕ). me.0) c.swap_first-was.ensures.3 ∙ ap (λ (me : Me (Place ℕ ℕ) ℕ). me.0) c.turn.ensures.2 ∙ ap (λ (me : Me (Place ℕ ℕ) ℕ). me.0) c.swap_second-second.ensures.3 ∙ ap (λ (me : Me (Place ℕ ℕ) ℕ). me.0) c.load.ensures.seat.2.2 in record {
       block = c.swap_first-left.ensures.0 ∙ c.swap_first-was.ensures.0 ∙ c.turn.ensures.0 ∙ c.swap_second-second.ensures.0 ∙ c.load.ensures.seat.0 ∙ c.args.self.seated.1;
       allowed = goes_on seat.id seat.me first 1 now (λ n. (n + (2 ^ 64 - 1)) % 2 ^ 64) 2 gone_stage refl;
       shares = gives seat.id seat.me first 1 now (λ n. (n + (2 ^ 64 - 1)) % 2 ^ 64) refl refl;
