@@ -24,6 +24,7 @@ use Rattle.task_exports.specs.Unknown.{unknown}
 use Rattle.task_cell.specs.WakerPaths.{GainPath, TaskWakePath}
 use Rattle.task_exports.specs.Hands.{IsGone, IsLast, IsLive, IsRecordOf, SameCell}
 use Rattle.task_exports.specs.Parties.{CellParty}
+use Rattle.task_exports.specs.declared.hand.Grip.{Grip}
 use Rattle.task_exports.specs.declared.hand.Hand.{Hand}
 use Rattle.task_exports.specs.declared.handle.Handle.{Handle}
 use Rattle.task_exports.specs.declared.grip.Hold.{Hold}
@@ -154,7 +155,11 @@ pub data DropsWaker (x k : Hand) : Option CellParty → ℕ → Type 0 where
   orphan_waker : (w v : State) (ended : CellParty) → others_left w ≡ false → is_open w ≡ true → IsLive k → Stands as_runnable k.party
       → Did (row OrphanTask w ∷ row CloseOrphan v ∷ act HandOver ∷ act EndCall ∷ []) as_ended x.party ended → DropsWaker x k (Some ended) 10
 
+-- a hold of this hand's cell, which has the same bits
+abbrev pub IsHoldOf : Hand → Grip → Type 0
+IsHoldOf x grip = (grip.hold.hold.id ≡ x.share.maybe.id) × (grip.hold.hold.value ≡ x.share.maybe.value)
+
 -- a hold of the cell of x: 0, none is made; 12, it is made
 pub data Holds (x : Hand) (k : Hold) : ℕ → Type 0 where
   hold_missed : k.there ≡ false → Holds x k 0
-  held : k.there ≡ true → k.grip.hold.hold.value ≡ x.share.maybe.value → Holds x k 12
+  held : k.there ≡ true → IsHoldOf x k.grip → Holds x k 12

@@ -1,6 +1,6 @@
 //! Holds, which keep a cell while its schedule function is called by somebody who has no handle left.
 ghost use Rattle.std.specs.Prelude.{◌≡◌, IfSome, true, false};
-ghost use Rattle.task_exports.specs.Answers.{Holds, IsFull, TellsEnd};
+ghost use Rattle.task_exports.specs.Answers.{Holds, IsFull, IsHoldOf, TellsEnd};
 ghost use Rattle.task_exports.specs.Hands.{IsLive};
 
 use crate::answers::{DONE, MISSED};
@@ -12,7 +12,7 @@ use crate::handle::{Handle, put, take};
 fn keep(hand: Hand) -> (Hand, Option<Grip>)
     requires { IsLive hand }
     ensures lent { IsLive result.0 × (result.0.party ≡ hand.party) }
-    ensures hold { IfSome result.1 (λ grip. grip.hold.hold.value ≡ hand.share.maybe.value) }
+    ensures hold { IfSome result.1 (λ grip. IsHoldOf hand grip) }
 {
     let Hand { share, party } = hand;
     let share = share.share();

@@ -17,7 +17,7 @@ pub struct CellHold<R, F: Yields, Q, M, A, B: Allocator + Copy> {
 impl<R: Drop, F: Yields, Q: Drop, M: Drop, A: Drop, B: Allocator + Copy> Share<R, F, Q, M, A, B> {
     /// A hold of the cell, by one step beside the word. None where there are 2^63 - 1 holds.
     pub fn hold_once(&self) -> Option<CellHold<R, F, Q, M, A, B>>
-        ensures { IfSome result (λ hold. hold.hold.value ≡ self.now.block.value) }
+        ensures { IfSome result (λ hold. (hold.hold.id ≡ self.now.block.id) × (hold.hold.value ≡ self.now.block.value)) }
     {
         let hold = self.block.hold()?;
         Some(CellHold { hold })

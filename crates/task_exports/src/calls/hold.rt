@@ -1,7 +1,7 @@
 //! A hold, its release, and a schedule call within it.
 ghost use Rattle.std.specs.Prelude.{◌≡◌, IfSome, true, false};
 ghost use Rattle.task_cell.specs.Calls.{Stands};
-ghost use Rattle.task_exports.specs.Answers.{IsFull};
+ghost use Rattle.task_exports.specs.Answers.{IsFull, IsHoldOf};
 ghost use Rattle.task_steps.specs.Standing.{as_runnable};
 
 use crate::answers::{DONE, ENDED};
@@ -16,7 +16,7 @@ pub fn hold(h: &mut Handle, out: &mut Hold) -> Option<()>
     requires handle { IsFull h.old }
     requires room { out.old.there ≡ false }
     ensures lent { IfSome result (λ _. IsFull h.new × (h.new.hand.party ≡ h.old.hand.party)) }
-    ensures hold { IfSome result (λ _. (out.new.there ≡ true) × (out.new.grip.hold.hold.value ≡ h.old.hand.share.maybe.value)) }
+    ensures hold { IfSome result (λ _. (out.new.there ≡ true) × IsHoldOf h.old.hand out.new.grip) }
 {
     match async_task_hold(h, out) {
         DONE => Some(()),
