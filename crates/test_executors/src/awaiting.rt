@@ -16,3 +16,4 @@ mod refused_tests;
 mod script;
 mod shown_tests;
 mod spawn_tests;
+mod words;
