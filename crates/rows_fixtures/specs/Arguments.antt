@@ -7,11 +7,11 @@ AreTheWord text [] = ⊥
 AreTheWord text (word ∷ []) = string_bytes word ≡ text
 AreTheWord text (word ∷ (other ∷ more)) = ⊥
 
--- .. ask for rows: there are none, or there is one of two words
+-- the arguments ask for rows: there are none, or there is one of two words
 abbrev pub AskForRows : List (String Global) → Type 0
 AskForRows [] = ⊤
 AskForRows (word ∷ more) = AreTheWord (codes "threads") (word ∷ more) ⊎ AreTheWord (codes "all") (word ∷ more)
 
--- .. for what may be written
+-- the arguments ask for what may be written
 abbrev pub AskForHelp : List (String Global) → Type 0
 AskForHelp args = AreTheWord (codes "--help") args

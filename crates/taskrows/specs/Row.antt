@@ -62,6 +62,6 @@ counts_of PriorityFull = counts 1 2 2 0
 abbrev pub AgreesAt : Counts → Outcome → Type 0
 AgreesAt expected outcome = IsTrue outcome.agrees → outcome.counts ≡ expected
 
--- .. with those that the table of the rows has for it
+-- a row that agrees has the counts that the table of the rows has for it
 abbrev pub AgreesAs : Row → Outcome → Type 0
 AgreesAs row = AgreesAt (counts_of row)

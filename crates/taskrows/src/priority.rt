@@ -31,7 +31,7 @@ enum Turn {
     Scheduled(u64, u64),
     /// Polls the Task of that place, which answers ready with that number.
     Gives(usize, u64),
-    /// .. that the task is closed.
+    /// Polls the Task of that place, which answers that the task is closed.
     Closed(usize),
 }
 
@@ -108,7 +108,7 @@ pub fn play<R: Wait + Drop + Copy>(
     play_by(fixture, alloc, &queue, order, counts)
 }
 
-// .. with that queue.
+// The same with that queue.
 fn play_by<R: Wait + Drop + Copy>(
     fixture: &Fixture<R>,
     alloc: Global,

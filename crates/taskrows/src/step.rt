@@ -6,7 +6,7 @@ use rows_fixtures::behaviour::Behaviour;
 pub enum Step {
     /// Spawns a task whose future behaves like that.
     Spawn(Behaviour),
-    /// .. and which may have that many references.
+    /// Spawns such a task, which may have that many references.
     SpawnLimited(Behaviour, u64),
     /// Takes the Runnable that has waited longest out of the queue.
     Receive,
@@ -18,7 +18,7 @@ pub enum Step {
     DropRunnable,
     /// Makes a waker of it.
     Waker,
-    /// .. which is refused.
+    /// Asks for a waker of it, which is refused.
     WakerRefused,
     /// It shows the flags and the count of that word.
     RunnableShows(u64),
@@ -54,11 +54,11 @@ pub enum Step {
     TakeStored,
     /// Clones the waker that came last.
     CloneWaker,
-    /// .. which is refused.
+    /// Asks for a clone of it, which is refused.
     CloneRefused,
     /// Wakes by the waker that came last, by reference.
     WakeByRef,
-    /// .. by value.
+    /// Wakes by the waker that came last, by value.
     Wake,
     /// Drops the waker that came first.
     DropWaker,

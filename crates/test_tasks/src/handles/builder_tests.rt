@@ -15,7 +15,7 @@ use std::sync::Wait;
 const SPAWNED: &str =
     " { header: Header { scheduled: true, running: false, completed: false, closed: false, awaiter: false, task: true, ref_count: 1, metadata: () } }";
 
-// .. with one waker.
+// What a handle shows of such a task that has one waker.
 const WITH_WAKER: &str =
     " { header: Header { scheduled: true, running: false, completed: false, closed: false, awaiter: false, task: true, ref_count: 2, metadata: () } }";
 

@@ -82,7 +82,7 @@ const UNPOLLED: Counts = Counts {
     scheduler_drops: 1,
 };
 
-// .. after one poll.
+// Future and schedule value were dropped, after one poll.
 const POLLED: Counts = Counts {
     polls: 1,
     schedules: 0,
@@ -98,7 +98,7 @@ const HANDED: Counts = Counts {
     scheduler_drops: 0,
 };
 
-// .. and then the drops.
+// One poll, one call of the schedule value, and then the drops.
 const ENDED: Counts = Counts {
     polls: 1,
     schedules: 1,
