@@ -20,7 +20,7 @@ pub record AbstractCell : Type 0 where
   pub task : PlainTask
   pub held : Bool  -- a Runnable, or the run or the drop that took it up, has not given up its reference
   pub storing : Bool  -- the open poll of the Task drops the old awaiter
-  pub owed : Bool  -- .. and the wake of its new one fell due meanwhile
+  pub owed : Bool  -- the wake of its new one fell due meanwhile
 
 -- the calls of the handles
 pub data Call : Type 0 where
