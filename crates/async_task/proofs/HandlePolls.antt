@@ -25,5 +25,5 @@ module _ {A K T U : Type 0} (f : T → U) (cloned : A → Result A K → Type 0)
   polled_as _ _ (looks_again w registered path answer e e' r a) = looks_again w registered path (answer_as f answer) e e' r (answered_as path answer a)
 
   -- the same where the answer that was found is known
-  pub polls_as : {F V : Type 0} (p q : Party F V A) (found answer : TaskPoll (Option T)) → found ≡ answer → PollsOnce cloned woken woken_by_ref compared awaiter p q found → PollsOnce cloned woken woken_by_ref compared awaiter p q (answer_as f answer)
+  pub polls_as : {F V P : Type 0} (p q : Party F V P) (found answer : TaskPoll (Option T)) → found ≡ answer → PollsOnce cloned woken woken_by_ref compared awaiter p q found → PollsOnce cloned woken woken_by_ref compared awaiter p q (answer_as f answer)
   polls_as p q found answer e h = (h.0, polled_as h.0 answer (subst (λ (x : TaskPoll (Option T)). PollPath cloned woken woken_by_ref compared awaiter h.0 x) e h.1), h.2)

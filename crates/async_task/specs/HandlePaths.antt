@@ -46,15 +46,15 @@ module _ {F T A : Type 0} where
   EndsTask Closes GivesUp p q = (closing path : List Deed) × Closes closing × GivesUp path × Did (closing ++ path) as_ended p q
 
   -- one poll of the Task
-  abbrev pub PollsOnce : {U K : Type 0} → (A → Result A K → Type 0) → (A → K → Type 0) → (A → K → Type 0) → (A → A → Bool → Type 0) → A → Party F T A
+  abbrev pub PollsOnce : {B U K : Type 0} → (B → Result B K → Type 0) → (B → K → Type 0) → (B → K → Type 0) → (B → B → Bool → Type 0) → B → Party F T A
       → Party F T A → TaskPoll (Option U) → Type 0
   PollsOnce cloned woken woken_by_ref compared awaiter p q answer =
       (path : List Deed) × PollPath cloned woken woken_by_ref compared awaiter path answer
       × Did path (as_task (poll_number (position p))) p q
 
   -- one poll of the Task before which the task is closed, unless an earlier poll has closed it
-  abbrev pub PollsClosed : {U K : Type 0} → Bool → (List Deed → Type 0) → (A → Result A K → Type 0) → (A → K → Type 0) → (A → K → Type 0)
-      → (A → A → Bool → Type 0) → A → Party F T A → Party F T A → TaskPoll (Option U) → Type 0
+  abbrev pub PollsClosed : {B U K : Type 0} → Bool → (List Deed → Type 0) → (B → Result B K → Type 0) → (B → K → Type 0) → (B → K → Type 0)
+      → (B → B → Bool → Type 0) → B → Party F T A → Party F T A → TaskPoll (Option U) → Type 0
   PollsClosed was_closed Closes cloned woken woken_by_ref compared awaiter p q answer =
       (closing path : List Deed) × ClosesUnless was_closed Closes closing × PollPath cloned woken woken_by_ref compared awaiter path answer
       × Did (closing ++ path) (as_task (poll_number (position p))) p q

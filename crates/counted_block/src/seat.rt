@@ -9,6 +9,7 @@ ghost use Rattle.counted_block.specs.declared.place.Place.{Place};
 
 use crate::place::Place;
 use crate::rule::{BlockPlay, BlockRule};
+use crate::seen::Seen;
 use std::alloc::Allocator;
 use std::marker::{Model, PhantomData};
 
@@ -31,6 +32,16 @@ impl<S, W, V> Seat<S, W, V> {
     pub fn turn(&mut self)
         ensures { (self.new.block ≡ self.old.block) × (self.new.id ≡ self.old.id) × (self.new.me ≡ (self.old.me.0, turned self.old.me.1)) }
     {}
+
+    /// What the seat knows now, to be kept beside a value. It costs nothing.
+    pub fn seen(&self) -> Seen<V>
+        ensures { result.view ≡ self.now.me.0 }
+    {
+        let _ = self;
+        Seen {
+            marker: PhantomData,
+        }
+    }
 }
 
 impl<S, W, V> Drop for Seat<S, W, V> {

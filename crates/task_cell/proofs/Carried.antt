@@ -2,6 +2,7 @@
 use Rattle.task_steps.specs.Values.{Values}
 use Rattle.task_steps.specs.Rule.{IsFuture, IsOutput}
 use Rattle.task_steps.specs.declared.table.Slot.TheVariants.{Empty, Future, Output}
+use Rattle.task_steps.specs.declared.stored.StoredAwaiter.{StoredAwaiter}
 use Rattle.task_cell.proofs.Vocabulary.{◌≡◌, ℕ, Bool, true, false, List, [], ◌∷◌, Option, refl, sym, ap, ◌∙◌, subst, Me, rest, Position, owns_awaiter, Slot, TaskPlace, First, Second, work_first, awaiter_first, Deed, View, Party, has_work, Works, Awaits}
 use Rattle.task_cell.proofs.Vocabulary.{Carries, Carried, DidWith}
 
@@ -12,7 +13,7 @@ module _ {F T A : Type 0} where
   carries_kept values false true q l l' e = e
   carries_kept values false false q l l' e = e
 
-  carries_awaiter : (values : Values F T) (a : Bool) (q : Position) (l l' : List (ℕ × TaskPlace F T A)) → Carries values a a false true q l l' → (y : Option A) × Awaits q y × (l' ≡ awaiter_first y l)
+  carries_awaiter : (values : Values F T) (a : Bool) (q : Position) (l l' : List (ℕ × TaskPlace F T A)) → Carries values a a false true q l l' → (y : Option (StoredAwaiter A)) × Awaits q y × (l' ≡ awaiter_first y l)
   carries_awaiter values true q l l' e = e
   carries_awaiter values false q l l' e = e
 
@@ -26,7 +27,7 @@ module _ {F T A : Type 0} where
   pub keeps_places : (values : Values F T) (p q : Position) (l l' : List (ℕ × TaskPlace F T A)) → has_work q ≡ has_work p → owns_awaiter q ≡ owns_awaiter p → Carried values p q l l' → l' ≡ l
   keeps_places values p q l l' e f x = carries_kept values (has_work p) (owns_awaiter p) q l l' (at values p q l l' (has_work p) (has_work p) (owns_awaiter p) (owns_awaiter p) refl e refl f x)
 
-  pub took_awaiter : (values : Values F T) (p q : Position) (l l' : List (ℕ × TaskPlace F T A)) → has_work q ≡ has_work p → owns_awaiter p ≡ false → owns_awaiter q ≡ true → Carried values p q l l' → (y : Option A) × Awaits q y × (l' ≡ awaiter_first y l)
+  pub took_awaiter : (values : Values F T) (p q : Position) (l l' : List (ℕ × TaskPlace F T A)) → has_work q ≡ has_work p → owns_awaiter p ≡ false → owns_awaiter q ≡ true → Carried values p q l l' → (y : Option (StoredAwaiter A)) × Awaits q y × (l' ≡ awaiter_first y l)
   took_awaiter values p q l l' e f g x = carries_awaiter values (has_work p) q l l' (at values p q l l' (has_work p) (has_work p) false true refl e f g x)
 
   pub gave_awaiter : (values : Values F T) (p q : Position) (l l' : List (ℕ × TaskPlace F T A)) → has_work q ≡ has_work p → owns_awaiter p ≡ true → owns_awaiter q ≡ false → Carried values p q l l' → l' ≡ rest l
@@ -63,7 +64,7 @@ module _ {F T A : Type 0} where
   work_in z (First y) = y
   work_in z (Second a) = z
 
-  abbrev awaiter_in : Option A → TaskPlace F T A → Option A
+  abbrev awaiter_in : Option (StoredAwaiter A) → TaskPlace F T A → Option (StoredAwaiter A)
   awaiter_in z (First y) = z
   awaiter_in z (Second a) = a
 
@@ -75,7 +76,7 @@ module _ {F T A : Type 0} where
       → q.seat.me.1 ≡ work_first x (rest q.seat.me.1) → r.seat.me ≡ (q.seat.me.0, work_first new (rest q.seat.me.1)) → (y ≡ x) × DidWith path at (work_first new held) p r
   exchanges_work = exchanges 0 (λ y. First y) work_in (λ z x. refl)
 
-  pub exchanges_awaiter : (p q r : Party F T A) (path : List Deed) (at : Position) (y x new : Option A) (held : List (ℕ × TaskPlace F T A)) → DidWith path at (awaiter_first y held) p q → r.seat.block ≡ q.seat.block
+  pub exchanges_awaiter : (p q r : Party F T A) (path : List Deed) (at : Position) (y x new : Option (StoredAwaiter A)) (held : List (ℕ × TaskPlace F T A)) → DidWith path at (awaiter_first y held) p q → r.seat.block ≡ q.seat.block
       → q.seat.me.1 ≡ awaiter_first x (rest q.seat.me.1) → r.seat.me ≡ (q.seat.me.0, awaiter_first new (rest q.seat.me.1)) → (y ≡ x) × DidWith path at (awaiter_first new held) p r
   exchanges_awaiter = exchanges 1 (λ a. Second a) awaiter_in (λ z x. refl)
 

@@ -1,5 +1,6 @@
 -- What the steps of a notifier come to.
 use Rattle.task_steps.specs.Values.{Values}
+use Rattle.task_steps.specs.declared.stored.StoredAwaiter.{StoredAwaiter}
 use Rattle.task_cell.proofs.Vocabulary.{◌≡◌, ℕ, Bool, true, false, not, ◌&&◌, ◌||◌, List, [], ◌∷◌, Option, Some, None, refl, sym, ap, ◌∙◌, subst, if◌then◌else◌, State, NotifyingCall, Notifier}
 use Rattle.task_cell.proofs.Vocabulary.{Releaser, MissNotify, BeginNotify, TakeAwaiter, EndNotify, after_taking, TaskPlace, Deed, Party, Waits, Makes, taking_awaiter, releasing_awaiter}
 use Rattle.task_cell.proofs.Vocabulary.{awaiter_first, held, is_some, Fits, position, places_of, StandsWith, DidWith, Notifies, misses, finds_none, takes_awaiter, row, act, way_of, on_work, on_free, same_way, arith}
@@ -12,13 +13,9 @@ use Rattle.task_cell.proofs.Carried.{keeps_places, took_awaiter, gave_awaiter}
 free : (a b : Bool) → (a || b) ≡ false → (not a && not b) ≡ true
 free a b e = grind arith
 
--- an awaiter lies there where the machine says so
-pub there : {A : Type 0} (hand : Option ℕ) (y : Option A) (found : Option (Held A)) → Waits hand y → held found ≡ y → is_some found ≡ is_some hand
-there None None None h e = refl
-there None None (Some a) h e = absurd (cc)
-there (Some i) (Some a) (Some b) h e = refl
-there (Some i) (Some a) None h e = absurd (cc)
-there hand y found h e = absurd h
+-- what was taken out is what the machine says
+pub there : {A : Type 0} (hand : Option ℕ) (y : Option (StoredAwaiter A)) (found : Option (Held (StoredAwaiter A))) → Waits hand y → held found ≡ y → Waits hand (held found)
+there hand y found h e = subst (λ z. Waits hand z) (sym e) h
 
 module _ {F T A : Type 0} where
   -- the position and the places of a notifier, as contracts say them
@@ -56,14 +53,14 @@ module _ {F T A : Type 0} where
       is_so : (b : Bool) → not b ≡ false → b ≡ true
       is_so b e = grind arith
 
-  released : {values : Values F T} (hand : Option ℕ) (way : NotifyingCall) (y : Option A) (held : List (ℕ × TaskPlace F T A)) (p q : Party F T A) (w : State) → StandsWith (Releaser hand way) (awaiter_first y held) p → q.seat.block ≡ p.seat.block
+  released : {values : Values F T} (hand : Option ℕ) (way : NotifyingCall) (y : Option (StoredAwaiter A)) (held : List (ℕ × TaskPlace F T A)) (p q : Party F T A) (w : State) → StandsWith (Releaser hand way) (awaiter_first y held) p → q.seat.block ≡ p.seat.block
       → Makes values (releasing_awaiter w) w p.seat.me q.seat.me → DidWith (row EndNotify w ∷ []) (after_taking hand way) held p q
   released {values = values} hand way y held p q w s cell made =
       let m = moved.moved (EndNotify ∷ []) w (Releaser hand way) (awaiter_first y held) p q s made in
       moved.did p q (row EndNotify w ∷ []) (after_taking hand way) held cell m.viewed (gave_awaiter values (Releaser hand way) (after_taking hand way) (awaiter_first y held) q.seat.me.1 (on_work hand way ∙ sym (same_way hand way)) refl (on_free hand way) m.carried)
 
   -- what lay there was taken out, and the place given back
-  pub ended : {values : Values F T} (hand : Option ℕ) (way : NotifyingCall) (y x : Option A) (held' : List (ℕ × TaskPlace F T A)) (p q r : Party F T A) (v : State) (found : Option (Held A)) → Waits hand y
+  pub ended : {values : Values F T} (hand : Option ℕ) (way : NotifyingCall) (y x : Option (StoredAwaiter A)) (held' : List (ℕ × TaskPlace F T A)) (p q r : Party F T A) (v : State) (found : Option (Held (StoredAwaiter A))) → Waits hand y
       → (y ≡ x) × DidWith [] (Releaser hand way) (awaiter_first None held') p q → r.seat.block ≡ q.seat.block → Makes values (releasing_awaiter v) v q.seat.me r.seat.me → held found ≡ x → EndsNotify hand way held' p r found
   ended hand way y x held' p q r v found waits g cell made is = record {
     word = v;
@@ -74,20 +71,20 @@ module _ {F T A : Type 0} where
 
   -- where a party stands that has taken the place
   abbrev pub Took : NotifyingCall → List (ℕ × TaskPlace F T A) → Party F T A → Type 0
-  Took way held q = (hand : Option ℕ) × (way : NotifyingCall) × (y : Option A) × (held : List (ℕ × TaskPlace F T A)) × StandsWith (Releaser hand way) (awaiter_first y held) q × Waits hand y
+  Took way held q = (hand : Option ℕ) × (way : NotifyingCall) × (y : Option (StoredAwaiter A)) × (held : List (ℕ × TaskPlace F T A)) × StandsWith (Releaser hand way) (awaiter_first y held) q × Waits hand y
 
   pub took : (p q : Party F T A) (b : Bool) → BeginsNotify p q b → b ≡ true → Took (way_of (position p)) (places_of p) q
   took p q true (takes_place w hand y f h g) e = (hand, way_of (position p), y, places_of p, moved.stands p q (row BeginNotify w ∷ act TakeAwaiter ∷ []) (Releaser hand (way_of (position p))) (awaiter_first y (places_of p)) g, h)
   took p q false n e = absurd (cc)
 
-  goes_on : (w v : State) (hand : Option ℕ) (p q : Party F T A) (found : Option (Held A)) → Fits BeginNotify w → is_some found ≡ is_some hand → DidWith (row BeginNotify w ∷ act TakeAwaiter ∷ row EndNotify v ∷ []) (after_taking hand (way_of (position p))) (places_of p) p q → Notifies p q (held found)
+  goes_on : (w v : State) (hand : Option ℕ) (p q : Party F T A) (found : Option (Held (StoredAwaiter A))) → Fits BeginNotify w → Waits hand (held found) → DidWith (row BeginNotify w ∷ act TakeAwaiter ∷ row EndNotify v ∷ []) (after_taking hand (way_of (position p))) (places_of p) p q → Notifies p q (held found)
   goes_on w v None p q None f e g = finds_none w v f g
-  goes_on w v (Some i) p q (Some a) f e g = takes_awaiter w v i a.value f g
-  goes_on w v hand p q found f e g = absurd (cc)
+  goes_on w v (Some i) p q (Some a) f e g = takes_awaiter w v i a.value f e g
+  goes_on w v hand p q found f e g = absurd e
 
   -- both steps
-  pub notified : (p q r : Party F T A) (b : Bool) (found : Option (Held A)) → BeginsNotify p q b → b ≡ true
-      → ((hand : Option ℕ) (way : NotifyingCall) (y : Option A) (held' : List (ℕ × TaskPlace F T A)) → StandsWith (Releaser hand way) (awaiter_first y held') q → Waits hand y → EndsNotify hand way held' q r found) → Notifies p r (held found)
+  pub notified : (p q r : Party F T A) (b : Bool) (found : Option (Held (StoredAwaiter A))) → BeginsNotify p q b → b ≡ true
+      → ((hand : Option ℕ) (way : NotifyingCall) (y : Option (StoredAwaiter A)) (held' : List (ℕ × TaskPlace F T A)) → StandsWith (Releaser hand way) (awaiter_first y held') q → Waits hand y → EndsNotify hand way held' q r found) → Notifies p r (held found)
   notified p q r true found (takes_place w hand y f h g) e end =
       let way = way_of (position p) in let t = end hand way y (places_of p) (moved.stands p q (row BeginNotify w ∷ act TakeAwaiter ∷ []) (Releaser hand way) (awaiter_first y (places_of p)) g) h in
       goes_on w t.word hand p r found f t.is_there (moved.did_then p q r (row BeginNotify w ∷ act TakeAwaiter ∷ []) (row EndNotify t.word ∷ []) (Releaser hand way) (after_taking hand way) (awaiter_first y (places_of p)) (places_of p) g t.did)

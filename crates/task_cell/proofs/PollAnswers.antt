@@ -46,7 +46,7 @@ module _ {F T A : Type 0} where
   pub saw_end : (w : State) (p q : Party F T A) → SeesNoneAgain w p q → has_to_wait w ≡ false → (has_ended w ≡ true) × Did (row Look w ∷ []) (Notifier (OfPoll (poll_number (position p)))) p q
   saw_end w p q s f = ⊎_elim (λ x. never (sym f ∙ x.0)) (λ x. (x.1, x.2)) s
 
-  module _ {K : Type 0} (cloned : A → Result A K → Type 0) (woken woken_by_ref : A → K → Type 0) (compared : A → A → Bool → Type 0) (awaiter : A) where
+  module _ {B K : Type 0} (cloned : B → Result B K → Type 0) (woken woken_by_ref : B → K → Type 0) (compared : B → B → Bool → Type 0) (awaiter : B) where
     abbrev pub Answers : ℕ → TaskPoll (Option T) → Party F T A → Party F T A → Type 0
     Answers n answer p r = (path : List Deed) × AnswerPath woken compared awaiter path answer × Did path (as_task n) p r
 
@@ -76,12 +76,12 @@ module _ {F T A : Type 0} where
     Came p q true = (path : List Deed) × RegisterPath cloned woken woken_by_ref awaiter path × Did path (Looking (poll_number (position p))) p q
     Came p q false = (told : K) × cloned awaiter (Err told) × Did (act RefuseClone ∷ act EndCall ∷ []) (ends (position p)) p q
 
-    came_by : (p q : Party F T A) (b : Bool) → Registers cloned woken woken_by_ref awaiter p q b → Came p q b
-    came_by p q true (is_registered path r g) = (path, r, g)
+    came_by : {Stored : Type 0} (p q : Party F T A) (b : Bool) → Registers cloned woken woken_by_ref awaiter Stored p q b → Came p q b
+    came_by p q true (is_registered path r g kept) = (path, r, g)
     came_by p q false (clone_refused told c g) = (told, c, g)
 
-    pub came : (p q : Party F T A) (b c : Bool) → Registers cloned woken woken_by_ref awaiter p q b → b ≡ c → Came p q c
-    came p q b c r e = came_by p q c (subst (λ b. Registers cloned woken woken_by_ref awaiter p q b) e r)
+    pub came : {Stored : Type 0} (p q : Party F T A) (b c : Bool) → Registers cloned woken woken_by_ref awaiter Stored p q b → b ≡ c → Came p q c
+    came {Stored} p q b c r e = came_by p q c (subst (λ b. Registers cloned woken woken_by_ref awaiter Stored p q b) e r)
 
     pub polled_refused : (w : State) (n : ℕ) (p q r : Party F T A) → has_output w ≡ false → has_ended w ≡ false → Did (row Look w ∷ []) (Registrar n) p q → Came q r false → Polled n Refused p r
     polled_refused w n p q r e f g h = (row Look w ∷ act RefuseClone ∷ act EndCall ∷ [], paths.is_refused w h.0 e f h.1, then_goes p q r (row Look w ∷ []) (act RefuseClone ∷ act EndCall ∷ []) (Registrar n) [] [] ends g h.2)

@@ -1,6 +1,8 @@
 -- What the looks of a poll and the steps of a registering come to for the party that made them.
 use Rattle.task_steps.specs.Values.{Values}
+use Rattle.task_steps.specs.Stored.{stored_by}
 use Rattle.std.proofs.Common.{inl}
+use Rattle.task_steps.specs.declared.stored.StoredAwaiter.{StoredAwaiter}
 use Rattle.task_cell.proofs.Vocabulary.{◌≡◌, ℕ, ◌+◌, Bool, true, false, not, ◌&&◌, ◌||◌, Option, Some, None, List, [], ◌∷◌, refl, sym, ap, ◌∙◌, subst, map, if◌then◌else◌, Result, Ok, Err}
 use Rattle.task_cell.proofs.Vocabulary.{IfOk, IfErr, Me, State, Position, TaskPollBegins, IsPending, OfPoll, OfClaim, Looking, SawOutput, Answering, Notifier, Registrar}
 use Rattle.task_cell.proofs.Vocabulary.{UnusedClone, Registered, TookBack, CloneInHand, Act, Look, CloneAwaiter, StoreAwaiter, FindNotify, BeginRegister, EndRegister, EndRegisterNotified, TakeAwaiter}
@@ -46,7 +48,7 @@ module _ {F T A : Type 0} where
       finds_one w e.at_end (subst (λ at. Did path (UnusedClone (poll_number at)) p q) (sym (position_is p (Registrar i) [] s)) (subst (λ l. DidWith path (UnusedClone i) l p q) g.0 g.1))
 
   -- the slot that is taken, by what stood in it
-  carried_slot : (values : Values F T) (i : ℕ) (hand : Option ℕ) (l' : List (ℕ × TaskPlace F T A)) → Carried values (Registrar i) (after_storing i hand) [] l' → (y : Option A) × Waits hand y × (l' ≡ awaiter_first y [])
+  carried_slot : (values : Values F T) (i : ℕ) (hand : Option ℕ) (l' : List (ℕ × TaskPlace F T A)) → Carried values (Registrar i) (after_storing i hand) [] l' → (y : Option (StoredAwaiter A)) × Waits hand y × (l' ≡ awaiter_first y [])
   carried_slot values i None l' c = c
   carried_slot values i (Some old) l' c = c
 
@@ -58,14 +60,14 @@ module _ {F T A : Type 0} where
       begins w hand y.0 (not_true w.notifying c.applied) y.1 (subst (λ at. DidWith path (after_storing (poll_number at) hand) (awaiter_first y.0 []) p q) (sym (position_is p (Registrar i) [] s)) (subst (λ l. DidWith path (after_storing i hand) l p q) y.2 g.1))
 
   -- the slot is given back
-  pub ended : {values : Values F T} (limit i : ℕ) (r : Unit {0}) (y : Option A) (p q : Party F T A) → StandsWith (Registered i) (awaiter_first y []) p → q.seat.block ≡ p.seat.block → HasChanged values limit to_end_register r p.seat.me q.seat.me → EndsRegister p q true
+  pub ended : {values : Values F T} (limit i : ℕ) (r : Unit {0}) (y : Option (StoredAwaiter A)) (p q : Party F T A) → StandsWith (Registered i) (awaiter_first y []) p → q.seat.block ≡ p.seat.block → HasChanged values limit to_end_register r p.seat.me q.seat.me → EndsRegister p q true
   ended limit i r y p q s cell c = let m = c.made in let w = c.word in
       let path : List Deed = row EndRegister w ∷ [] in
       let g = went (EndRegister ∷ []) w (Registered i) (Looking i) (awaiter_first y []) path p q s cell m refl refl refl in
       ends w (not_true w.notifying c.applied) (subst (λ at. Did path (Looking (poll_number at)) p q) (sym (position_is p (Registered i) (awaiter_first y []) s)) (subst (λ l. DidWith path (Looking i) l p q) g.0 g.1))
 
   -- the slot is given back without the clone, which was taken out of it
-  pub given_back : {values : Values F T} (i : ℕ) (w : State) (y : Option A) (p q r : Party F T A) → StandsWith (TookBack i) (awaiter_first y []) p → DidWith [] (TookBack i) (awaiter_first None []) p q → r.seat.block ≡ q.seat.block → Makes values (EndRegisterNotified ∷ []) w q.seat.me r.seat.me
+  pub given_back : {values : Values F T} (i : ℕ) (w : State) (y : Option (StoredAwaiter A)) (p q r : Party F T A) → StandsWith (TookBack i) (awaiter_first y []) p → DidWith [] (TookBack i) (awaiter_first None []) p q → r.seat.block ≡ q.seat.block → Makes values (EndRegisterNotified ∷ []) w q.seat.me r.seat.me
       → (v : State) × (v.notifying ≡ true) × Did (row EndRegisterNotified v ∷ []) (CloneInHand (poll_number (position p))) p r
   given_back i w y p q r s took cell m = let path : List Deed = row EndRegisterNotified w ∷ [] in let held : List (ℕ × TaskPlace F T A) = awaiter_first None [] in
       let g = went (EndRegisterNotified ∷ []) w (TookBack i) (CloneInHand i) held path q r (stands p q [] (TookBack i) held took) cell m refl refl refl in (
@@ -75,7 +77,7 @@ module _ {F T A : Type 0} where
       )
 
   -- a notifier came meanwhile, and the clone is taken back
-  pub notified : {values : Values F T} (limit i : ℕ) (w : State) (y : Option A) (p q : Party F T A) → StandsWith (Registered i) (awaiter_first y []) p → q.seat.block ≡ p.seat.block → HasEnded values limit to_end_register w p.seat.me q.seat.me → EndsRegister p q false
+  pub notified : {values : Values F T} (limit i : ℕ) (w : State) (y : Option (StoredAwaiter A)) (p q : Party F T A) → StandsWith (Registered i) (awaiter_first y []) p → q.seat.block ≡ p.seat.block → HasEnded values limit to_end_register w p.seat.me q.seat.me → EndsRegister p q false
   notified limit i w y p q s cell e = let m = e.made in let path : List Deed = act TakeAwaiter ∷ [] in let held : List (ℕ × TaskPlace F T A) = awaiter_first y [] in
       let to : (f : Option Outcome → Position) → f (leaves_by (limit_of p) w m.slots (TakeAwaiter ∷ []) (Registered i)) ≡ f (Some (changes_slots (spot (limit_of p) (held_word (Registered i) w) m.slots) w (record (m.slots) { awaiter = None }) (TookBack i) [])) = λ f.
       ap (λ (b : Bool). f (and_then (when b (changes_slots (spot (limit_of p) (held_word (Registered i) w) m.slots) w (record (m.slots) { awaiter = None }) (TookBack i) [])) (λ o. leaves_by (limit_of p) o.word o.slots [] o.next))) e.at_end in
@@ -147,8 +149,8 @@ module _ (F T A : Type 0) (values : Values F T) (limit : ℕ) where
   pub may_register : (p : Party F T A) (i : ℕ) → Stands (Registrar i) p → MayTry values limit 2 p.seat.id p.seat.me to_begin_register × MayBring values limit p.seat.id p.seat.me to_begin_register
   may_register p i s = may_bring_at limit p (Registrar i) [] s to_begin_register (λ w. refl) (begins_register F T A values limit i (deeds p) [] []) (λ m f fits. inl (refl, refl)) (finds_notifier F T A values limit i (deeds p) [] [])
 
-  pub may_give_back : (p : Party F T A) (i : ℕ) (a : A) → StandsWith (Registered i) (awaiter_first (Some a) []) p → MayTry values limit 2 p.seat.id p.seat.me to_end_register × MayBring values limit p.seat.id p.seat.me to_end_register
-  may_give_back p i a s = let held : List (ℕ × TaskPlace F T A) = awaiter_first (Some a) [] in may_bring_at limit p (Registered i) held s to_end_register (λ w. refl) (ends_register F T A values limit i (deeds p) [] a held refl) (λ m f fits. inl (refl, refl)) (takes_back F T A values limit i (deeds p) [] held)
+  pub may_give_back : (p : Party F T A) (i : ℕ) (a : StoredAwaiter A) → stored_by a ≡ i → StandsWith (Registered i) (awaiter_first (Some a) []) p → MayTry values limit 2 p.seat.id p.seat.me to_end_register × MayBring values limit p.seat.id p.seat.me to_end_register
+  may_give_back p i a by s = let held : List (ℕ × TaskPlace F T A) = awaiter_first (Some a) [] in may_bring_at limit p (Registered i) held s to_end_register (λ w. refl) (ends_register F T A values limit i (deeds p) [] a held by refl) (λ m f fits. inl (refl, refl)) (takes_back F T A values limit i (deeds p) [] held)
 
   pub may_look : (p : Party F T A) (n : ℕ) → Stands (as_task n) p → MayTry values limit 2 p.seat.id p.seat.me to_look × MayBring values limit p.seat.id p.seat.me to_look
   may_look p n s = may_bring_at limit p (as_task n) [] s to_look (λ w. refl) (claims F T A values limit n (deeds p) [] []) (λ m f fits. inl (refl, refl)) (looks F T A values limit n (deeds p) [] [])

@@ -33,8 +33,8 @@ module _ {A K T : Type 0} (cloned : A → Result A K → Type 0) (woken woken_by
   path_saw _ _ earlier (looks_again w registered path answer e e' r a) is =
       subst (λ l. saw_ended l ≡ true) (sym (after-append (row Look w ∷ registered) path earlier)) (answer_saw path answer (after (row Look w ∷ registered) earlier) a is)
 
-  module _ {F V : Type 0} where
-    pub poll_saw : (p q : Party F V A) (path : List Deed) (at : Position) (answer : TaskPoll (Option T)) → PollPath cloned woken woken_by_ref compared awaiter path answer → DidWith path at [] p q → answer ≡ Ready None → saw_ended (deeds q) ≡ true
+  module _ {F V P : Type 0} where
+    pub poll_saw : (p q : Party F V P) (path : List Deed) (at : Position) (answer : TaskPoll (Option T)) → PollPath cloned woken woken_by_ref compared awaiter path answer → DidWith path at [] p q → answer ≡ Ready None → saw_ended (deeds q) ≡ true
     poll_saw p q path at answer h g is = subst (λ l. saw_ended l ≡ true) (sym (deeds_after p q path at g)) (path_saw path answer (deeds p) h is)
 
 -- a word cannot be of a task that has ended and that has its output

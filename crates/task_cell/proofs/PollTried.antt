@@ -1,5 +1,6 @@
 -- What the looks of a poll come to that are tried a bounded number of times, and the clone that is put in.
 use Rattle.task_steps.specs.Values.{Values}
+use Rattle.task_steps.specs.declared.stored.StoredAwaiter.{StoredAwaiter}
 use Rattle.task_cell.proofs.Vocabulary.{◌≡◌, ℕ, true, Option, Some, None, [], sym, ◌∙◌, Result, Err, IfOk, IfErr, IfSome, State, Looking, after_storing, Party, Waits}
 use Rattle.task_cell.proofs.Vocabulary.{saw_ended, deeds, Stands, DidWith, has_ended, as_task, HasChanged, HasEnded, Looks, LooksAgain, held, awaiter_first}
 use Rattle.task_steps.specs.PollScripts.{to_look, to_look_again}
@@ -26,5 +27,5 @@ module _ {F T A : Type 0} where
   tried_look_again values limit i (Some x) p q s cell c e = looks_again_so limit i x p q s cell c e
 
   -- the clone was put in, over what stood there
-  pub put : (i : ℕ) (hand : Option ℕ) (y x : Option A) (clone : A) (p q : Party F T A) (found : Option (Held A)) → Waits hand y → (y ≡ x) × DidWith [] (after_storing i hand) (awaiter_first (Some clone) []) p q → held found ≡ x → PutsClone i hand clone p q found
+  pub put : (i : ℕ) (hand : Option ℕ) (y x : Option (StoredAwaiter A)) (clone : StoredAwaiter A) (p q : Party F T A) (found : Option (Held (StoredAwaiter A))) → Waits hand y → (y ≡ x) × DidWith [] (after_storing i hand) (awaiter_first (Some clone) []) p q → held found ≡ x → PutsClone i hand clone p q found
   put i hand y x clone p q found waits g is = (there hand y found waits (is ∙ sym g.0), g.1)

@@ -1,5 +1,6 @@
 -- The paths of a poll, put together from those of its parts.
 use Rattle.task_steps.specs.Values.{Values}
+use Rattle.task_steps.specs.declared.stored.StoredAwaiter.{StoredAwaiter}
 use Rattle.task_cell.proofs.Vocabulary.{◌≡◌, ℕ, Bool, true, false, Option, Some, None, List, [], ◌∷◌, ◌++◌, refl, sym, ap, ◌∙◌, subst, State, Position, NotifyingCall, OfPoll, OfClaim, Notifier}
 use Rattle.task_cell.proofs.Vocabulary.{AwaiterInHand, TookOutput, Answering, HandOutOutput, TakeAwaiter, DropAwaiter, WakeAwaiter, EndCall, BeginNotify, MissNotify, EndNotify, IsClosed, after_waking}
 use Rattle.task_cell.proofs.Vocabulary.{may_drop, notifies, Slot, Deed, Party, Fits, position, places_of, StandsWith, Stands, DidWith, Did, Notifies, misses, finds_none, takes_awaiter, row, act}
@@ -7,6 +8,8 @@ use Rattle.task_cell.proofs.Vocabulary.{as_task, way_of, poll_number, IsOutput, 
 use Rattle.task_laws.specs.Table.{after_taking as on_from}
 use Rattle.task_cell.specs.PollPaths as paths
 use Rattle.task_cell.proofs.Moved.{did_then, stands, position_is, held_is}
+use Rattle.task_cell.proofs.Vocabulary.{Me, View}
+use Rattle.task_steps.specs.Stored.{poll_of}
 
 -- the way on of a poll that may drop the awaiter
 some_goes_on : (way : NotifyingCall) (i : ℕ) → may_drop way ≡ true → on_from (Some i) way ≡ AwaiterInHand i way
@@ -32,20 +35,20 @@ abbrev pub took : State → State → List Deed
 took w v = row BeginNotify w ∷ act TakeAwaiter ∷ row EndNotify v ∷ []
 
 module _ {F T A : Type 0} where
-  abbrev Took : Party F T A → Party F T A → Option A → Type 0
+  abbrev Took : Party F T A → Party F T A → Option (StoredAwaiter A) → Type 0
   Took p q None = Unit {0}
   Took p q (Some a) = (w : State) × (v : State) × (i : ℕ) × Fits BeginNotify w × DidWith (took w v) (on_from (Some i) (way_of (position p))) (places_of p) p q
 
-  took_one : (p q : Party F T A) (x : Option A) → Notifies p q x → Took p q x
+  took_one : (p q : Party F T A) (x : Option (StoredAwaiter A)) → Notifies p q x → Took p q x
   took_one p q None (misses w f g) = tt
   took_one p q None (finds_none w v f g) = tt
-  took_one p q (Some a) (takes_awaiter w v i b f g) = (w, v, i, f, g)
+  took_one p q (Some a) (takes_awaiter w v i b f by g) = (w, v, i, f, g)
 
   -- a notifier has taken the slot, and stands with the awaiter in hand
   abbrev pub InHand : NotifyingCall → List (ℕ × TaskPlace F T A) → Party F T A → Party F T A → Type 0
   InHand way held p q = (w : State) × (v : State) × (i : ℕ) × Fits BeginNotify w × DidWith (took w v) (AwaiterInHand i way) held p q
 
-  pub in_hand : (way : NotifyingCall) (held : List (ℕ × TaskPlace F T A)) (p q : Party F T A) (a : A) (x : Option A) → StandsWith (Notifier way) held p → may_drop way ≡ true → Notifies p q x → x ≡ Some a → InHand way held p q
+  pub in_hand : (way : NotifyingCall) (held : List (ℕ × TaskPlace F T A)) (p q : Party F T A) (a : StoredAwaiter A) (x : Option (StoredAwaiter A)) → StandsWith (Notifier way) held p → may_drop way ≡ true → Notifies p q x → x ≡ Some a → InHand way held p q
   in_hand way held p q a x s e n is = let g = took_one p q (Some a) (subst (λ y. Notifies p q y) is n) in (
     g.0,
     g.1,
@@ -67,19 +70,19 @@ module _ {F T A : Type 0} where
       (subst (λ (z : Position × List (ℕ × TaskPlace F T A)). DidWith b (after_waking (way_of z.0)) z.1 q r) (λ j. (at j, has j)) g) in
       subst (λ (z : Position × List (ℕ × TaskPlace F T A)). DidWith (took h.0 h.1 ++ b) (after_waking (way_of z.0)) z.1 p r) (λ j. (sym (position_is p (Notifier way) held s) j, sym (held_is p (Notifier way) held s) j)) whole
 
-  module _ {K : Type 0} (woken : A → K → Type 0) (compared : A → A → Bool → Type 0) (awaiter : A) where
+  module _ {B K : Type 0} (woken : B → K → Type 0) (compared : B → B → Bool → Type 0) (awaiter : B) where
     abbrev pub Takes : Party F T A → Party F T A → Type 0
     Takes p r = (path : List Deed) × TakePath woken compared awaiter path × DidWith path (after_waking (way_of (position p))) (places_of p) p r
 
-    pub dropped : (way : NotifyingCall) (held : List (ℕ × TaskPlace F T A)) (p q r : Party F T A) (a : A) (x : Option A) → StandsWith (Notifier way) held p → may_drop way ≡ true → Notifies p q x → x ≡ Some a
-        → compared a awaiter true → DidWith (act DropAwaiter ∷ []) (after_waking (way_of (position q))) (places_of q) q r → Takes p r
-    dropped way held p q r a x s e n is same g = let h = in_hand way held p q a x s e n is in
-        (took h.0 h.1 ++ (act DropAwaiter ∷ []), paths.drops h.0 h.1 a h.3 same, dealt way held (act DropAwaiter ∷ []) p q r s h g)
+    pub dropped : (way : NotifyingCall) (held : List (ℕ × TaskPlace F T A)) (p q r : Party F T A) (a : StoredAwaiter A) (b : B) (x : Option (StoredAwaiter A)) → StandsWith (Notifier way) held p → may_drop way ≡ true → Notifies p q x → x ≡ Some a
+        → compared b awaiter true → DidWith (act DropAwaiter ∷ []) (after_waking (way_of (position q))) (places_of q) q r → Takes p r
+    dropped way held p q r a b x s e n is same g = let h = in_hand way held p q a x s e n is in
+        (took h.0 h.1 ++ (act DropAwaiter ∷ []), paths.drops h.0 h.1 b h.3 same, dealt way held (act DropAwaiter ∷ []) p q r s h g)
 
-    pub woke : (way : NotifyingCall) (held : List (ℕ × TaskPlace F T A)) (p q r : Party F T A) (a : A) (x : Option A) → StandsWith (Notifier way) held p → may_drop way ≡ true → Notifies p q x → x ≡ Some a
-        → compared a awaiter false → (told : K) × woken a told → DidWith (act WakeAwaiter ∷ []) (after_waking (way_of (position q))) (places_of q) q r → Takes p r
-    woke way held p q r a x s e n is other made g = let h = in_hand way held p q a x s e n is in
-        (took h.0 h.1 ++ (act WakeAwaiter ∷ []), paths.wakes h.0 h.1 a made.0 h.3 other made.1, dealt way held (act WakeAwaiter ∷ []) p q r s h g)
+    pub woke : (way : NotifyingCall) (held : List (ℕ × TaskPlace F T A)) (p q r : Party F T A) (a : StoredAwaiter A) (b : B) (x : Option (StoredAwaiter A)) → StandsWith (Notifier way) held p → may_drop way ≡ true → Notifies p q x → x ≡ Some a
+        → compared b awaiter false → (told : K) × woken b told → DidWith (act WakeAwaiter ∷ []) (after_waking (way_of (position q))) (places_of q) q r → Takes p r
+    woke way held p q r a b x s e n is other made g = let h = in_hand way held p q a x s e n is in
+        (took h.0 h.1 ++ (act WakeAwaiter ∷ []), paths.wakes h.0 h.1 b made.0 h.3 other made.1, dealt way held (act WakeAwaiter ∷ []) p q r s h g)
 
     took_none : (way : NotifyingCall) (held : List (ℕ × TaskPlace F T A)) (p r : Party F T A) (path : List Deed) → StandsWith (Notifier way) held p → may_drop way ≡ true → TakePath woken compared awaiter path
         → DidWith path (on_from None (way_of (position p))) (places_of p) p r → Takes p r
@@ -90,10 +93,14 @@ module _ {F T A : Type 0} where
           (ap (λ (at : Position). on_from None (way_of at)) (position_is p (Notifier way) held s) ∙ (none_goes_on way e ∙ ap (λ (at : Position). after_waking (way_of at)) (sym (position_is p (Notifier way) held s)))) g,
     )
 
-    pub nothing : (way : NotifyingCall) (held : List (ℕ × TaskPlace F T A)) (p r : Party F T A) (x : Option A) → StandsWith (Notifier way) held p → may_drop way ≡ true → Notifies p r x → x ≡ None → Takes p r
+    pub nothing : (way : NotifyingCall) (held : List (ℕ × TaskPlace F T A)) (p r : Party F T A) (x : Option (StoredAwaiter A)) → StandsWith (Notifier way) held p → may_drop way ≡ true → Notifies p r x → x ≡ None → Takes p r
     nothing way held p r None s e (misses w f g) is = took_none way held p r (row MissNotify w ∷ []) s e (paths.misses w f) g
     nothing way held p r None s e (finds_none w v f g) is = took_none way held p r (took w v) s e (paths.finds_none w v f) g
-    nothing way held p r (Some a) s e (takes_awaiter w v i b f g) is = absurd (cc)
+    nothing way held p r (Some a) s e (takes_awaiter w v i b f by g) is = absurd (cc)
+
+  -- the number of the poll that a party is in, as its seat shows it
+  pub is_of_poll : (p : Party F T A) (at : Position) (held : List (ℕ × TaskPlace F T A)) → StandsWith at held p → poll_of p.seat.me.0 ≡ poll_number (position p)
+  is_of_poll p at held s = ap (λ (m : Me (TaskPlace F T A) View). poll_of m.0) s ∙ sym (ap poll_number (position_is p at held s))
 
   -- a path, and then another whose end goes by where the first one ends
   pub then_goes : (p q r : Party F T A) (a b : List Deed) (at : Position) (held held' : List (ℕ × TaskPlace F T A)) (f : Position → Position) → DidWith a at held p q → DidWith b (f (position q)) held' q r → DidWith (a ++ b) (f at) held' p r
@@ -118,7 +125,7 @@ module _ {F T A : Type 0} where
   pub notifies_so : (i : ℕ) (held : List (ℕ × TaskPlace F T A)) (b : Bool) (p : Party F T A) → StandsWith (notifies b (OfClaim i)) held p → b ≡ true → StandsWith (Notifier (OfClaim i)) held p
   notifies_so i held b p s e = subst (λ (b : Bool). StandsWith (notifies b (OfClaim i)) held p) e s
 
-  pub taken_if : {K : Type 0} (woken : A → K → Type 0) (compared : A → A → Bool → Type 0) (awaiter : A) (i : ℕ) (held : List (ℕ × TaskPlace F T A)) (b : Bool) (p q : Party F T A) → StandsWith (notifies b (OfClaim i)) held p → b ≡ true
+  pub taken_if : {B K : Type 0} (woken : B → K → Type 0) (compared : B → B → Bool → Type 0) (awaiter : B) (i : ℕ) (held : List (ℕ × TaskPlace F T A)) (b : Bool) (p q : Party F T A) → StandsWith (notifies b (OfClaim i)) held p → b ≡ true
       → Takes woken compared awaiter p q → (path : List Deed) × TakePathIf woken compared awaiter b path × DidWith path (TookOutput (poll_number (position p))) (places_of p) p q
   taken_if woken compared awaiter i held b p q s e t = let s' = notifies_so i held b p s e in (
     t.0,
@@ -126,7 +133,7 @@ module _ {F T A : Type 0} where
     goes_from p q t.0 (Notifier (OfClaim i)) held (places_of p) (λ x. TookOutput (poll_number x)) s' (goes_by p q t.0 (Notifier (OfClaim i)) held (places_of p) (λ x. after_waking (way_of x)) s' t.2),
   )
 
-  pub none_taken : {K : Type 0} (woken : A → K → Type 0) (compared : A → A → Bool → Type 0) (awaiter : A) (i : ℕ) (held : List (ℕ × TaskPlace F T A)) (b : Bool) (p : Party F T A) → StandsWith (notifies b (OfClaim i)) held p → b ≡ false
+  pub none_taken : {B K : Type 0} (woken : B → K → Type 0) (compared : B → B → Bool → Type 0) (awaiter : B) (i : ℕ) (held : List (ℕ × TaskPlace F T A)) (b : Bool) (p : Party F T A) → StandsWith (notifies b (OfClaim i)) held p → b ≡ false
       → (path : List Deed) × TakePathIf woken compared awaiter b path × DidWith path (TookOutput (poll_number (position p))) (places_of p) p p
   none_taken woken compared awaiter i held b p s e = let s' = subst (λ (b : Bool). StandsWith (notifies b (OfClaim i)) held p) e s in let path : List Deed = [] in (
     path,

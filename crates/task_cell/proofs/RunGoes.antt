@@ -1,6 +1,7 @@
 -- What the steps of a run and of a Runnable's drop come to.
 use Rattle.task_steps.specs.Values.{Values}
 use Rattle.std.proofs.Common.{inl}
+use Rattle.task_steps.specs.declared.stored.StoredAwaiter.{StoredAwaiter}
 use Rattle.task_cell.proofs.Vocabulary.{◌≡◌, ℕ, Bool, true, false, not, ◌||◌, List, [], ◌∷◌, Option, Some, None, refl, sym, ap, ◌∙◌, subst, if◌then◌else◌, nat_lt, State, Answer}
 use Rattle.task_cell.proofs.Vocabulary.{Ran, Runnable, Ended, OfRun, ThenEnds, DroppedRunnable, Position, At, Deliverer, GivingUp, Emptier, FutureGone, Polling, Pending, ReadyFutureDropped, PendingFutureDropped}
 use Rattle.task_cell.proofs.Vocabulary.{OutputInHand, Act, GiveUpReference, GiveUpLastReference, EmptySlots, DiscardOpen, DiscardClosed, AnswerReady, AnswerPending, DropFuture, StoreOutput, Complete}
@@ -63,17 +64,17 @@ module _ {F T A : Type 0} where
   gives_cell hand answer p q true (last w y f g) = g.cell
   gives_cell hand answer p q false (not_last w f g) = g.cell
 
-  pub last_stands : (hand : Option ℕ) (answer : Answer) (p q : Party F T A) (b : Bool) → GivesUp hand answer p q b → b ≡ true → (y : Option A) × StandsWith (Emptier hand answer) (awaiter_first y []) q
+  pub last_stands : (hand : Option ℕ) (answer : Answer) (p q : Party F T A) (b : Bool) → GivesUp hand answer p q b → b ≡ true → (y : Option (StoredAwaiter A)) × StandsWith (Emptier hand answer) (awaiter_first y []) q
   last_stands hand answer p q true (last w y f g) e = (y, moved.stands p q (row GiveUpLastReference w ∷ []) (Emptier hand answer) (awaiter_first y []) g)
   last_stands hand answer p q false (not_last w f g) e = absurd (cc)
 
-  pub emptied : {values : Values F T} (hand : Option ℕ) (answer : Answer) (y : Option A) (p q : Party F T A) (w : State) → StandsWith (Emptier hand answer) (awaiter_first y []) p → q.seat.block ≡ p.seat.block → Makes values (emptying w) w p.seat.me q.seat.me
+  pub emptied : {values : Values F T} (hand : Option ℕ) (answer : Answer) (y : Option (StoredAwaiter A)) (p q : Party F T A) (w : State) → StandsWith (Emptier hand answer) (awaiter_first y []) p → q.seat.block ≡ p.seat.block → Makes values (emptying w) w p.seat.me q.seat.me
       → Did (act EmptySlots ∷ []) (after_giving_up hand answer) p q
   emptied {values = values} hand answer y p q w s cell made = let m = moved.moved (EmptySlots ∷ []) w (Emptier hand answer) (awaiter_first y []) p q s made in
       moved.did p q (act EmptySlots ∷ []) (after_giving_up hand answer) [] cell m.viewed (gave_awaiter values (Emptier hand answer) (after_giving_up hand answer) (awaiter_first y []) q.seat.me.1 (given_work hand answer) refl (given_free hand answer) m.carried)
 
   pub releases_last : (hand : Option ℕ) (answer : Answer) (p q r : Party F T A) (b : Bool) → GivesUp hand answer p q b → b ≡ true
-      → ((y : Option A) → StandsWith (Emptier hand answer) (awaiter_first y []) q → Did (act EmptySlots ∷ []) (after_giving_up hand answer) q r) → Releases hand answer p r
+      → ((y : Option (StoredAwaiter A)) → StandsWith (Emptier hand answer) (awaiter_first y []) q → Did (act EmptySlots ∷ []) (after_giving_up hand answer) q r) → Releases hand answer p r
   releases_last hand answer p q r true (last w y f g) e ends = (
     row GiveUpLastReference w ∷ act EmptySlots ∷ [],
     leaves_none w f,

@@ -1,5 +1,6 @@
 -- What the calls of a run and of a Runnable's drop come to, step after step.
 use Rattle.task_steps.specs.Values.{Values}
+use Rattle.task_steps.specs.declared.stored.StoredAwaiter.{StoredAwaiter}
 use Rattle.task_cell.proofs.Vocabulary.{◌≡◌, ℕ, Bool, true, false, List, [], ◌∷◌, ◌++◌, Option, Some, None, refl, sym, ap, ◌∙◌, subst, State, Rest, Ended, NotifyingCall, OfRun, OfDrop, OfCancel}
 use Rattle.task_cell.proofs.Vocabulary.{DroppedRunnable, Position, At, CallEnding, Notifier, GivingUp, AwaiterInHand, FutureGone, EndCall, WakeAwaiter, DropFuture, Unschedule, Answer, Ran, Nothing}
 use Rattle.task_cell.proofs.Vocabulary.{after_taking, after_waking, notifies, Slot, Empty, Deed, Party, IsFuture, position, places_of, StandsWith, Stands, DidWith, Did, Notifies, misses}
@@ -14,56 +15,56 @@ module _ {F T A : Type 0} where
   at_way way hand path p q s g = subst (λ (z : NotifyingCall × List (ℕ × TaskPlace F T A)). DidWith path (after_taking hand z.0) z.1 p q)
       (λ i. (ap way_of (moved.position_is p (Notifier way) [] s) i, moved.held_is p (Notifier way) [] s i)) g
 
-  pub took_due : (way : NotifyingCall) (p q : Party F T A) (r : Option A) → Stands (Notifier way) p → Notifies p q r
+  pub took_due : (way : NotifyingCall) (p q : Party F T A) (r : Option (StoredAwaiter A)) → Stands (Notifier way) p → Notifies p q r
       → TakesDue way true p q r
   took_due way p q r s (misses w f g) = takes_none _ (missed w f) (at_way way None _ p q s g)
   took_due way p q r s (finds_none w v f g) = takes_none _ (none_there w v f) (at_way way None _ p q s g)
-  took_due way p q r s (takes_awaiter w v i a f g) = takes_one i a _ (taken w v f) (at_way way (Some i) _ p q s g)
+  took_due way p q r s (takes_awaiter w v i a f by g) = takes_one i a _ by (taken w v f) (at_way way (Some i) _ p q s g)
 
   -- the path of what was taken, and whether an awaiter is in hand after it
-  pub due_path : (way : NotifyingCall) (due : Bool) (p q : Party F T A) (r : Option A) → TakesDue way due p q r
+  pub due_path : (way : NotifyingCall) (due : Bool) (p q : Party F T A) (r : Option (StoredAwaiter A)) → TakesDue way due p q r
       → (hand : Option ℕ) × (path : List Deed) × NotifyPath due (is_some r) path × Did path (after_taking hand way) p q
   due_path way due p q r (takes_none path n g) = (None, path, n, g)
-  due_path way due p q r (takes_one i a path n g) = (Some i, path, n, g)
+  due_path way due p q r (takes_one i a path by n g) = (Some i, path, n, g)
 
-  pub due_cell : (way : NotifyingCall) (due : Bool) (p q : Party F T A) (r : Option A) → TakesDue way due p q r → q.seat.block ≡ p.seat.block
+  pub due_cell : (way : NotifyingCall) (due : Bool) (p q : Party F T A) (r : Option (StoredAwaiter A)) → TakesDue way due p q r → q.seat.block ≡ p.seat.block
   due_cell way due p q r d = (due_path way due p q r d).3.cell
 
   -- an awaiter in hand was woken, by what the party has
-  pub wakes_has : (Woken : Type 0) (way : NotifyingCall) (a : A) (r : Option A) (p q : Party F T A) → HasTaken way p r → r ≡ Some a → Woken
+  pub wakes_has : (Woken : Type 0) (way : NotifyingCall) (a : StoredAwaiter A) (r : Option (StoredAwaiter A)) (p q : Party F T A) → HasTaken way p r → r ≡ Some a → Woken
       → DidWith (act WakeAwaiter ∷ []) (after_waking (way_of (position p))) (places_of p) p q → Wakes Woken way r p q
   wakes_has Woken way a r p q (has_none s) e fact g = absurd (cc)
-  wakes_has Woken way a r p q (has_one i b s) e fact g = (
+  wakes_has Woken way a r p q (has_one i b by s) e fact g = (
     act WakeAwaiter ∷ [],
     woken fact,
     subst (λ (z : NotifyingCall × List (ℕ × TaskPlace F T A)). DidWith (act WakeAwaiter ∷ []) (after_waking z.0) z.1 p q)
         (λ j. (ap way_of (moved.position_is p (AwaiterInHand i way) [] s) j, moved.held_is p (AwaiterInHand i way) [] s j)) g,
   )
 
-  pub wakes_none : (Woken : Type 0) (way : NotifyingCall) (r : Option A) (p : Party F T A) → HasTaken way p r → r ≡ None
+  pub wakes_none : (Woken : Type 0) (way : NotifyingCall) (r : Option (StoredAwaiter A)) (p : Party F T A) → HasTaken way p r → r ≡ None
       → Wakes Woken way r p p
   wakes_none Woken way r p (has_none s) e = ([], nobody, record { cell = refl; is = s })
-  wakes_none Woken way r p (has_one i b s) e = absurd (cc)
+  wakes_none Woken way r p (has_one i b by s) e = absurd (cc)
 
-  pub has_hand : (way : NotifyingCall) (a : A) (r : Option A) (p : Party F T A) → HasTaken way p r → r ≡ Some a → (i : ℕ) × Stands (AwaiterInHand i way) p
+  pub has_hand : (way : NotifyingCall) (a : StoredAwaiter A) (r : Option (StoredAwaiter A)) (p : Party F T A) → HasTaken way p r → r ≡ Some a → (i : ℕ) × Stands (AwaiterInHand i way) p
   has_hand way a r p (has_none s) e = absurd (cc)
-  has_hand way a r p (has_one i b s) e = (i, s)
+  has_hand way a r p (has_one i b by s) e = (i, s)
 
   pub ended_call : (answer : Answer) (r : Rest) (p q : Party F T A) → Stands (CallEnding answer r) p → Did (act EndCall ∷ []) (rest_of (position p)) p q → Did (act EndCall ∷ []) (At r) p q
   ended_call answer r p q s g = subst (λ (at : Position). Did (act EndCall ∷ []) at p q) (ap rest_of (moved.position_is p (CallEnding answer r) [] s)) g
 
   -- in a run, what was taken is woken after the reference was given up
-  pub run_gives_up : (due : Bool) (p q : Party F T A) (r : Option A) → TakesDue OfRun due p q r → (hand : Option ℕ) × Stands (GivingUp hand (Ran false)) q
+  pub run_gives_up : (due : Bool) (p q : Party F T A) (r : Option (StoredAwaiter A)) → TakesDue OfRun due p q r → (hand : Option ℕ) × Stands (GivingUp hand (Ran false)) q
   run_gives_up due p q r d = let n = due_path OfRun due p q r d in (n.0, moved.stands p q n.1 (GivingUp n.0 (Ran false)) [] n.3)
 
   abbrev pub Released : Party F T A → Party F T A → Type 0
   Released q r = (hand : Option ℕ) (answer : Answer) → Stands (GivingUp hand answer) q → Releases hand answer q r
 
-  pub run_has : (due : Bool) (p q q' : Party F T A) (r : Option A) → TakesDue OfRun due p q r → Released q q' → HasTaken OfRun q' r
+  pub run_has : (due : Bool) (p q q' : Party F T A) (r : Option (StoredAwaiter A)) → TakesDue OfRun due p q r → Released q q' → HasTaken OfRun q' r
   run_has due p q q' r (takes_none path n g) rel = let x = rel None (Ran false) (moved.stands p q path (GivingUp None (Ran false)) [] g) in has_none (moved.stands q q' x.0 (CallEnding (Ran false) Ended) [] x.2)
-  run_has due p q q' r (takes_one i a path n g) rel = let x = rel (Some i) (Ran false) (moved.stands p q path (GivingUp (Some i) (Ran false)) [] g) in has_one i a (moved.stands q q' x.0 (AwaiterInHand i OfRun) [] x.2)
+  run_has due p q q' r (takes_one i a path by n g) rel = let x = rel (Some i) (Ran false) (moved.stands p q path (GivingUp (Some i) (Ran false)) [] g) in has_one i a by (moved.stands q q' x.0 (AwaiterInHand i OfRun) [] x.2)
 
-  pub rested : (Woken : Type 0) (due : Bool) (p q q' s t : Party F T A) (r : Option A) → TakesDue OfRun due p q r → Released q q' → ((way : NotifyingCall) → HasTaken way q' r → Wakes Woken way r q' s)
+  pub rested : (Woken : Type 0) (due : Bool) (p q q' s t : Party F T A) (r : Option (StoredAwaiter A)) → TakesDue OfRun due p q r → Released q q' → ((way : NotifyingCall) → HasTaken way q' r → Wakes Woken way r q' s)
       → (Stands (CallEnding (Ran false) Ended) s → Did (act EndCall ∷ []) (At Ended) s t) → Rests Woken due p t
   rested Woken due p q q' s t r d rel wake ends = let n = due_path OfRun due p q r d in let x = rel n.0 (Ran false) (moved.stands p q n.1 (GivingUp n.0 (Ran false)) [] n.3) in
       let k = wake OfRun (run_has due p q q' r d rel) in let z = ends (moved.stands q' s k.0 (CallEnding (Ran false) Ended) [] k.2) in (
@@ -74,14 +75,14 @@ module _ {F T A : Type 0} where
       )
 
   -- where the awaiter is in hand as soon as it was taken
-  pub has_next : (way : NotifyingCall) (due : Bool) (p q : Party F T A) (r : Option A) → after_taking None way ≡ after_waking way → ((i : ℕ) → after_taking (Some i) way ≡ AwaiterInHand i way) → TakesDue way due p q r → HasTaken way q r
+  pub has_next : (way : NotifyingCall) (due : Bool) (p q : Party F T A) (r : Option (StoredAwaiter A)) → after_taking None way ≡ after_waking way → ((i : ℕ) → after_taking (Some i) way ≡ AwaiterInHand i way) → TakesDue way due p q r → HasTaken way q r
   has_next way due p q r none one (takes_none path n g) = has_none (subst (λ at. Stands at q) none (moved.stands p q path (after_taking None way) [] g))
-  has_next way due p q r none one (takes_one i a path n g) = has_one i a (subst (λ at. Stands at q) (one i) (moved.stands p q path (after_taking (Some i) way) [] g))
+  has_next way due p q r none one (takes_one i a path by n g) = has_one i a by (subst (λ at. Stands at q) (one i) (moved.stands p q path (after_taking (Some i) way) [] g))
 
-  pub cancel_has : (n : ℕ) (due : Bool) (p q : Party F T A) (r : Option A) → TakesDue (OfCancel n) due p q r → HasTaken (OfCancel n) q r
+  pub cancel_has : (n : ℕ) (due : Bool) (p q : Party F T A) (r : Option (StoredAwaiter A)) → TakesDue (OfCancel n) due p q r → HasTaken (OfCancel n) q r
   cancel_has n due p q r d = has_next (OfCancel n) due p q r refl (λ i. refl) d
 
-  discard_rest : (Woken : Type 0) (d : Deed) (w : State) (p o q s t u : Party F T A) (r : Option A) → DiscardStart d → Did (d ∷ act DropFuture ∷ row Unschedule w ∷ []) (notifies w.awaiter OfDrop) p o → TakesDue OfDrop w.awaiter o q r
+  discard_rest : (Woken : Type 0) (d : Deed) (w : State) (p o q s t u : Party F T A) (r : Option (StoredAwaiter A)) → DiscardStart d → Did (d ∷ act DropFuture ∷ row Unschedule w ∷ []) (notifies w.awaiter OfDrop) p o → TakesDue OfDrop w.awaiter o q r
       → Wakes Woken OfDrop r q s → Releases None Nothing s t → Did (act EndCall ∷ []) (At Ended) t u → Discards Woken p u
   discard_rest Woken d w p o q s t u r start f took k x z = let n = due_path OfDrop w.awaiter o q r took in (
     d ∷ act DropFuture ∷ row Unschedule w ∷ (n.1 ++ (k.0 ++ (x.0 ++ act EndCall ∷ []))),
@@ -113,7 +114,7 @@ module _ {F T A : Type 0} where
       drop_notifies = subst (λ h. Stands (notifies h OfDrop) o) (sym is) (moved.stands p o (start.0 ∷ act DropFuture ∷ row Unschedule w ∷ []) (notifies w.awaiter OfDrop) [] drop_closes)
 
       -- to q by the awaiter that was taken
-      module _ (q : Party F T A) (r : Option A) (notice : (way : NotifyingCall) → Stands (notifies due way) o → TakesDue way due o q r) where
+      module _ (q : Party F T A) (r : Option (StoredAwaiter A)) (notice : (way : NotifyingCall) → Stands (notifies due way) o → TakesDue way due o q r) where
         pub drop_takes : TakesDue OfDrop w.awaiter o q r
         drop_takes = subst (λ h. TakesDue OfDrop h o q r) is (notice OfDrop drop_notifies)
 

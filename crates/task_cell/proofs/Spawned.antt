@@ -1,5 +1,6 @@
 -- The rule at the spawn and at the end.
 use Rattle.task_steps.specs.Values.{Values}
+use Rattle.task_steps.specs.declared.stored.StoredAwaiter.{StoredAwaiter}
 use Rattle.task_cell.proofs.Vocabulary.{◌≡◌, ℕ, zero, suc, ◌≢◌, true, List, [], ◌∷◌, ◌++◌, get_or, set, sym, refl, ap, ◌∙◌, subst, arith}
 use Rattle.task_cell.proofs.Vocabulary.{some, some-injective, some-ne-none, Me, Splits, Final, Seen, Position, At}
 use Rattle.task_cell.proofs.Vocabulary.{Runnable, Task, Slot, Member, View, Party, member, view, fresh, opening_view, IsEmpty, Waits, Explains}
@@ -43,7 +44,7 @@ module _ (F T A : Type 0) (values : Values F T) (limit : ℕ) where
       first (x ∷ l) n e = sym (some-injective x n e)
 
   -- what lies in a block that is given back, by a party that has emptied the places
-  pub left_empty : (p : Party F T A) (at : Position) (ws : List ℕ) (y : Slot F T) (a : Option A) → StandsWith at [] p → has_emptied (deeds p) ≡ true → Final (Seen Rule p.seat.id p.seat.me.0) ws (First y ∷ Second a ∷ []) → IsEmpty y × Waits None a
+  pub left_empty : (p : Party F T A) (at : Position) (ws : List ℕ) (y : Slot F T) (a : Option (StoredAwaiter A)) → StandsWith at [] p → has_emptied (deeds p) ≡ true → Final (Seen Rule p.seat.id p.seat.me.0) ws (First y ∷ Second a ∷ []) → IsEmpty y × Waits None a
   left_empty p at ws y a stands did f = let n = empty_at_close F T A values limit f.0 (f.1).0 p.seat.id p.seat.me.0 (member at (deeds p)) [] (f.1).1 (ap (λ (m : Me (TaskPlace F T A) View). m.0.members) stands) did in (
     subst (λ z. IsEmpty z) (work_is n.work.0 (f.4 0 (First n.work.0) n.work.1)) n.work.2,
     subst (λ z. Waits None z) (awaiter_is n.awaiter.0 (f.4 1 (Second n.awaiter.0) n.awaiter.1)) n.awaiter.2,
@@ -52,5 +53,5 @@ module _ (F T A : Type 0) (values : Values F T) (limit : ℕ) where
       work_is : (z : Slot F T) → get_elem? (First y ∷ Second a ∷ []) 0 ≡ some (First z) → z ≡ y
       work_is z e = cc
 
-      awaiter_is : (z : Option A) → get_elem? (First y ∷ Second a ∷ []) 1 ≡ some (Second z) → z ≡ a
+      awaiter_is : (z : Option (StoredAwaiter A)) → get_elem? (First y ∷ Second a ∷ []) 1 ≡ some (Second z) → z ≡ a
       awaiter_is z e = cc

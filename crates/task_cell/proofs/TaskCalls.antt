@@ -1,5 +1,6 @@
 -- A cancel and a detach, put together from their steps.
 use Rattle.task_steps.specs.Values.{Values}
+use Rattle.task_steps.specs.declared.stored.StoredAwaiter.{StoredAwaiter}
 use Rattle.task_cell.proofs.Vocabulary.{◌≡◌, ℕ, Bool, true, false, List, [], ◌∷◌, ◌++◌, Option, Some, None, refl, sym, subst, State, Nothing, Deliverer, Emptier, OutputCloser}
 use Rattle.task_cell.proofs.Vocabulary.{OfCancel, ThenEnds, CancelOver, CancelBusy, CancelIdle, GiveUpOutput, DropOutput, DetachOrphan, DetachLast, Detach, EmptySlots, EndCall, HandOver, notifies}
 use Rattle.task_cell.proofs.Vocabulary.{after_cancelling, after_handing_over, Deed, Party, Busy, Unclaimed, Fits, position, StandsWith, Stands, DidWith}
@@ -72,14 +73,14 @@ module _ {F T A : Type 0} where
   abbrev pub Empties : Party F T A → Party F T A → Type 0
   Empties p q = Did (act EmptySlots ∷ act EndCall ∷ []) as_ended p q
 
-  pub empties : (p q r : Party F T A) (path : List Deed) (y : Option A) → DidWith path (Emptier None Nothing) (awaiter_first y []) p q → Empties q r → Did (path ++ act EmptySlots ∷ act EndCall ∷ []) as_ended p r
+  pub empties : (p q r : Party F T A) (path : List Deed) (y : Option (StoredAwaiter A)) → DidWith path (Emptier None Nothing) (awaiter_first y []) p q → Empties q r → Did (path ++ act EmptySlots ∷ act EndCall ∷ []) as_ended p r
   empties p q r path y g e = did_then p q r path (act EmptySlots ∷ act EndCall ∷ []) (Emptier None Nothing) as_ended (awaiter_first y []) [] g e
 
   -- the rest of a detach that has dropped the output: the Task was the last handle, or was not
   abbrev pub LeavesUnclaimed : Party F T A → Party F T A → Type 0
   LeavesUnclaimed p q = (path : List Deed) × UnclaimedPath path × Did path as_ended p q
 
-  pub unclaimed_empties : (p q : Party F T A) (b : Bool) → b ≡ true → GivesTaskUp p q b → (y : Option A) × StandsWith (Emptier None Nothing) (awaiter_first y []) q
+  pub unclaimed_empties : (p q : Party F T A) (b : Bool) → b ≡ true → GivesTaskUp p q b → (y : Option (StoredAwaiter A)) × StandsWith (Emptier None Nothing) (awaiter_first y []) q
   unclaimed_empties p q false is x = absurd (cc)
   unclaimed_empties p q true is x = (x.1, stands p q _ _ _ x.3)
 

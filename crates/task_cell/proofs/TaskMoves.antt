@@ -1,5 +1,6 @@
 -- What the steps of a cancel and of a detach come to for the party that made them.
 use Rattle.task_steps.specs.Values.{Values}
+use Rattle.task_steps.specs.declared.stored.StoredAwaiter.{StoredAwaiter}
 use Rattle.task_cell.proofs.Vocabulary.{◌≡◌, ℕ, Bool, true, false, not, ◌&&◌, List, [], ◌∷◌, ◌++◌, Option, Some, None, refl, sym, subst, arith, nat_lt, nat_eq, if◌then◌else◌, State, is_open}
 use Rattle.task_cell.proofs.Vocabulary.{Answer, Nothing, Position, At, Deliverer, Emptier, OutputCloser, Detacher, CallEnding, Rest, Task, Ended, ThenEnds, OfCancel, CancelOver, CancelBusy}
 use Rattle.task_cell.proofs.Vocabulary.{CancelIdle, GiveUpOutput, DropOutput, DetachOrphan, DetachLast, Detach, EndCall, notifies, after_cancelling, owns_awaiter, Deed, Party, Busy}
@@ -100,7 +101,7 @@ module _ {F T A : Type 0} where
   abbrev pub Ends : Type 0 → Bool → ℕ → Party F T A → Party F T A → Type 0
   Ends Woken due n p q = (path : List Deed) × Notice Woken due path × Did (path ++ act EndCall ∷ []) (as_task n) p q
 
-  pub ends_noticed : (Woken : Type 0) (p q r t : Party F T A) (n : ℕ) (due : Bool) (x : Option A) → TakesDue (OfCancel n) due p q x → Wakes Woken (OfCancel n) x q r → Did (act EndCall ∷ []) (rest_of (position r)) r t → Ends Woken due n p t
+  pub ends_noticed : (Woken : Type 0) (p q r t : Party F T A) (n : ℕ) (due : Bool) (x : Option (StoredAwaiter A)) → TakesDue (OfCancel n) due p q x → Wakes Woken (OfCancel n) x q r → Did (act EndCall ∷ []) (rest_of (position r)) r t → Ends Woken due n p t
   ends_noticed Woken p q r t n due x d k e = let m = due_path (OfCancel n) due p q x d in (
     m.1 ++ k.0,
     noticed Woken due (is_some x) m.1 k.0 m.2 k.1,

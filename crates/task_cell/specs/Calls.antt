@@ -1,5 +1,5 @@
 -- What a call of the cell asks of its party, and says of it.
-use Rattle.std.specs.Prelude.{◌≡◌, ℕ, List, [], ◌∷◌, Bool, true, false, not, Option, Some, None, is_some}
+use Rattle.std.specs.Prelude.{◌≡◌, ℕ, List, [], ◌∷◌, Bool, true, false, not, Option, Some, None}
 use Rattle.atomic_table.specs.Table.{Me, Allows, Splits}
 use Rattle.counted_block.specs.Counts.{Same, More, Less, Notes}
 use Rattle.task_core.specs.Word.{HasRoom, State, state_of}
@@ -11,6 +11,9 @@ use Rattle.task_laws.specs.declared.positions.Position.TheVariants.{Releaser}
 use Rattle.task_core.specs.declared.acts.Act.TheVariants.{MissNotify, BeginNotify, TakeAwaiter, EndNotify}
 use Rattle.task_laws.specs.Table.{after_taking}
 use Rattle.task_steps.specs.declared.places.Held.{Held}
+use Rattle.task_steps.specs.declared.stored.StoredAwaiter.{StoredAwaiter}
+use Rattle.task_steps.specs.Held.{held as in_hands}
+use Rattle.task_steps.specs.Stored.{stored_by}
 use Rattle.task_steps.specs.declared.table.Deed.{Deed}
 use Rattle.task_steps.specs.declared.table.View.{View}
 use Rattle.task_cell.specs.declared.cell.Party.{Party}
@@ -118,25 +121,25 @@ module _ {F T A : Type 0} where
   pub data BeginsNotify (p q : Party F T A) : Bool → Type 0 where
     finds_another : (w : State) → Fits MissNotify w
         → DidWith (row MissNotify w ∷ []) (after_taking None (way_of (position p))) (places_of p) p q → BeginsNotify p q false
-    takes_place : (w : State) (hand : Option ℕ) (y : Option A) → Fits BeginNotify w → Waits hand y
+    takes_place : (w : State) (hand : Option ℕ) (y : Option (StoredAwaiter A)) → Fits BeginNotify w → Waits hand y
         → DidWith (row BeginNotify w ∷ act TakeAwaiter ∷ []) (Releaser hand (way_of (position p))) (awaiter_first y (places_of p)) p q
         → BeginsNotify p q true
 
-  -- the second step of a notifier: what lies there is taken out, and the place given back
-  pub record EndsNotify (hand : Option ℕ) (way : NotifyingCall) (held : List (ℕ × TaskPlace F T A)) (p q : Party F T A) (found : Option (Held A))
+  -- the second step of a notifier: the awaiter that the poll of this number has stored is taken out, and the place given back
+  pub record EndsNotify (hand : Option ℕ) (way : NotifyingCall) (held : List (ℕ × TaskPlace F T A)) (p q : Party F T A) (found : Option (Held (StoredAwaiter A)))
       : Type 0 where
     pub word : State
-    pub is_there : is_some found ≡ is_some hand
+    pub is_there : Waits hand (in_hands found)
     pub did : DidWith (row EndNotify word ∷ []) (after_taking hand way) held p q
 
   -- a notifier: it finds another party at the awaiter, or takes it out
-  pub data Notifies (p q : Party F T A) : Option A → Type 0 where
+  pub data Notifies (p q : Party F T A) : Option (StoredAwaiter A) → Type 0 where
     misses : (w : State) → Fits MissNotify w → DidWith (row MissNotify w ∷ []) (after_taking None (way_of (position p))) (places_of p) p q
         → Notifies p q None
     finds_none : (w v : State) → Fits BeginNotify w
         → DidWith (row BeginNotify w ∷ act TakeAwaiter ∷ row EndNotify v ∷ []) (after_taking None (way_of (position p))) (places_of p) p q
         → Notifies p q None
-    takes_awaiter : (w v : State) (i : ℕ) (a : A) → Fits BeginNotify w
+    takes_awaiter : (w v : State) (i : ℕ) (a : StoredAwaiter A) → Fits BeginNotify w → stored_by a ≡ i
         → DidWith (row BeginNotify w ∷ act TakeAwaiter ∷ row EndNotify v ∷ []) (after_taking (Some i) (way_of (position p))) (places_of p) p q
         → Notifies p q (Some a)
 

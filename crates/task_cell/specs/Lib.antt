@@ -7,9 +7,10 @@ pub mod RunPaths
 pub mod RunCalls
 pub mod Handed
 pub mod TaskPaths
+pub mod Stores
 pub mod PollPaths
 pub mod Wakers
 pub mod WakerPaths
-pub mod Stores
 pub mod Gained
 pub mod WakerCalls
+pub mod Woken

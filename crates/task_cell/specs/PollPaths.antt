@@ -10,12 +10,14 @@ use Rattle.task_core.specs.declared.acts.Act.TheVariants.{TakeAwaiter, FindNotif
 use Rattle.task_core.specs.declared.acts.Act.TheVariants.{DropAwaiter, WakeAwaiter, EndCall, BeginNotify, MissNotify, EndNotify}
 use Rattle.task_laws.specs.Table.{notifies, first_look, after_storing}
 use Rattle.task_steps.specs.declared.table.Slot.{Slot}
+use Rattle.task_steps.specs.declared.stored.StoredAwaiter.{StoredAwaiter}
 use Rattle.task_steps.specs.declared.table.Deed.{Deed}
 use Rattle.task_cell.specs.declared.cell.Party.{Party}
 use Rattle.task_steps.specs.Values.{Values}
 use Rattle.task_steps.specs.Rule.{IsOutput, Waits as SlotWaits}
 use Rattle.task_steps.specs.Steps.{work_first, awaiter_first}
 use Rattle.task_cell.specs.Calls.{Fits, Did, DidWith, places_of, position}
+use Rattle.task_cell.specs.Stores.{gives_back}
 use Rattle.task_steps.specs.Deeds.{row, act}
 use Rattle.task_steps.specs.Standing.{as_task, poll_number}
 use Rattle.task_steps.specs.PollScripts.{has_output, has_ended, has_to_wait}
@@ -118,7 +120,7 @@ module _ {F T A : Type 0} where
 
   -- the awaiter slot is taken, unless there is a notifier
   pub data BeginsRegister (p q : Party F T A) : Bool → Type 0 where
-    begins : (w : State) (hand : Option ℕ) (y : Option A) → w.notifying ≡ false → SlotWaits hand y
+    begins : (w : State) (hand : Option ℕ) (y : Option (StoredAwaiter A)) → w.notifying ≡ false → SlotWaits hand y
         → DidWith (act CloneAwaiter ∷ row BeginRegister w ∷ act StoreAwaiter ∷ []) (after_storing (poll_number (position p)) hand)
         (awaiter_first y []) p q → BeginsRegister p q true
     finds_one : (w : State) → w.notifying ≡ true
@@ -130,10 +132,11 @@ module _ {F T A : Type 0} where
         → EndsRegister p q true
     finds_notified : DidWith (act TakeAwaiter ∷ []) (TookBack (poll_number (position p))) (places_of p) p q → EndsRegister p q false
 
-  -- the caller's awaiter is registered, unless its clone is refused
-  pub data Registers {K : Type 0} (cloned : A → Result A K → Type 0) (woken woken_by_ref : A → K → Type 0) (awaiter : A) (p q : Party F T A)
-      : Bool → Type 0 where
+  -- the caller's awaiter is registered, unless its clone is refused; the clone is stored, unless a notifier is there
+  pub data Registers {B K : Type 0} (cloned : B → Result B K → Type 0) (woken woken_by_ref : B → K → Type 0) (awaiter : B) (Stored : Type 0)
+      (p q : Party F T A) : Bool → Type 0 where
     is_registered : (path : List Deed) → RegisterPath cloned woken woken_by_ref awaiter path
-        → Did path (Looking (poll_number (position p))) p q → Registers cloned woken woken_by_ref awaiter p q true
+        → Did path (Looking (poll_number (position p))) p q → (gives_back path ≡ true → Stored)
+        → Registers cloned woken woken_by_ref awaiter Stored p q true
     clone_refused : (told : K) → cloned awaiter (Err told) → Did (act RefuseClone ∷ act EndCall ∷ []) (as_task (poll_number (position p))) p q
-        → Registers cloned woken woken_by_ref awaiter p q false
+        → Registers cloned woken woken_by_ref awaiter Stored p q false

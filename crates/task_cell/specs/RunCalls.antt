@@ -16,6 +16,8 @@ use Rattle.task_laws.specs.declared.positions.NotifyingCall.TheVariants.{OfRun}
 use Rattle.task_laws.specs.declared.positions.NotifyingCall.{NotifyingCall}
 use Rattle.task_laws.specs.Table.{after_giving_up, notifies, after_taking, after_waking}
 use Rattle.task_steps.specs.declared.table.Slot.{Slot}
+use Rattle.task_steps.specs.declared.stored.StoredAwaiter.{StoredAwaiter}
+use Rattle.task_steps.specs.Stored.{stored_by}
 use Rattle.task_steps.specs.declared.table.Deed.{Deed}
 use Rattle.task_cell.specs.declared.cell.Party.{Party}
 use Rattle.task_steps.specs.declared.run.PendingEnd.{PendingEnd}
@@ -37,7 +39,7 @@ module _ {F T A : Type 0} where
   pub data GivesUp (hand : Option ℕ) (answer : Answer) (p q : Party F T A) : Bool → Type 0 where
     not_last : (w : State) → Fits GiveUpReference w → Did (row GiveUpReference w ∷ []) (after_giving_up hand answer) p q
         → GivesUp hand answer p q false
-    last : (w : State) (y : Option A) → Fits GiveUpLastReference w
+    last : (w : State) (y : Option (StoredAwaiter A)) → Fits GiveUpLastReference w
         → DidWith (row GiveUpLastReference w ∷ []) (Emptier hand answer) (awaiter_first y []) p q → GivesUp hand answer p q true
 
   -- a reference was given up, and the places were emptied where it was the last handle
@@ -74,19 +76,19 @@ module _ {F T A : Type 0} where
     is_orphaned : (w : State) → w.closed ≡ false → w.scheduled ≡ false → (nat_lt 1 w.references || w.task) ≡ false
         → Did (row EndOrphaned w ∷ []) (Deliverer false (ThenEnds (Ran false))) p q → EndsPending held p q (Some Orphaned)
 
-  -- the awaiter was taken that was due
-  pub data TakesDue (way : NotifyingCall) (due : Bool) (p q : Party F T A) : Option A → Type 0 where
+  -- the awaiter was taken that was due: the one that the poll of this number has stored
+  pub data TakesDue (way : NotifyingCall) (due : Bool) (p q : Party F T A) : Option (StoredAwaiter A) → Type 0 where
     takes_none : (path : List Deed) → NotifyPath due false path → Did path (after_taking None way) p q → TakesDue way due p q None
-    takes_one : (i : ℕ) (a : A) (path : List Deed) → NotifyPath due true path → Did path (after_taking (Some i) way) p q
+    takes_one : (i : ℕ) (a : StoredAwaiter A) (path : List Deed) → stored_by a ≡ i → NotifyPath due true path → Did path (after_taking (Some i) way) p q
         → TakesDue way due p q (Some a)
 
   -- a party that has what was taken, to be woken
-  pub data HasTaken (way : NotifyingCall) (p : Party F T A) : Option A → Type 0 where
+  pub data HasTaken (way : NotifyingCall) (p : Party F T A) : Option (StoredAwaiter A) → Type 0 where
     has_none : Stands (after_waking way) p → HasTaken way p None
-    has_one : (i : ℕ) (a : A) → Stands (AwaiterInHand i way) p → HasTaken way p (Some a)
+    has_one : (i : ℕ) (a : StoredAwaiter A) → stored_by a ≡ i → Stands (AwaiterInHand i way) p → HasTaken way p (Some a)
 
   -- the awaiter that was taken, if one was, is woken
-  abbrev pub Wakes : Type 0 → NotifyingCall → Option A → Party F T A → Party F T A → Type 0
+  abbrev pub Wakes : Type 0 → NotifyingCall → Option (StoredAwaiter A) → Party F T A → Party F T A → Type 0
   Wakes Woken way awaiter p q = (path : List Deed) × WakePath Woken (is_some awaiter) path × Did path (after_waking way) p q
 
   -- a run has gone from its end step to the end of its call

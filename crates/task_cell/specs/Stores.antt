@@ -1,12 +1,48 @@
 -- What the clone of a poll's awaiter comes to that is put into the awaiter slot.
-use Rattle.std.specs.Prelude.{◌≡◌, ℕ, [], Option, is_some, Some}
+use Rattle.std.specs.Prelude.{◌≡◌, ℕ, Bool, true, false, ◌||◌, List, [], ◌∷◌, Option, Some}
+use Rattle.task_core.specs.Word.{State}
+use Rattle.task_core.specs.declared.acts.Act.{Act}
+use Rattle.task_core.specs.declared.acts.Act.TheVariants.{EndRegister}
+use Rattle.task_core.specs.declared.traits.Wake.{Ghosts}
+use Rattle.task_laws.specs.declared.positions.Position.TheVariants.{Looking, Registered}
 use Rattle.task_laws.specs.Table.{after_storing}
 use Rattle.task_steps.specs.declared.places.Held.{Held}
+use Rattle.task_steps.specs.declared.stored.AwaiterClone.{AwaiterClone}
+use Rattle.task_steps.specs.declared.stored.StoredAwaiter.{StoredAwaiter}
+use Rattle.task_steps.specs.declared.table.Deed.{Deed}
+use Rattle.task_steps.specs.Deeds.{row}
+use Rattle.task_steps.specs.Held.{held}
+use Rattle.task_steps.specs.Rule.{Waits}
+use Rattle.task_steps.specs.Standing.{poll_number}
+use Rattle.task_steps.specs.Stored.{stored_by}
 use Rattle.task_cell.specs.declared.cell.Party.{Party}
-use Rattle.task_cell.specs.Calls.{DidWith}
+use Rattle.task_cell.specs.Calls.{Did, DidWith, position}
 use Rattle.task_steps.specs.Steps.{awaiter_first}
 
+-- by this path the slot was given back with the clone in it
+abbrev pub gives_back : List Deed → Bool
+gives_back [] = false
+gives_back (d ∷ path) = is_end d.act || gives_back path
+  where
+    is_end : Act → Bool
+    is_end EndRegister = true
+    is_end _ = false
+
 module _ {F T A : Type 0} where
-  -- the clone is put in, and an older awaiter that stood there is in hand
-  abbrev pub PutsClone : ℕ → Option ℕ → A → Party F T A → Party F T A → Option (Held A) → Type 0
-  PutsClone i hand clone p q stood = (is_some stood ≡ is_some hand) × DidWith [] (after_storing i hand) (awaiter_first (Some clone) []) p q
+  -- the clone is put in, and an older awaiter that stood there is in hand: the one that the poll of this number has stored
+  abbrev pub PutsClone : ℕ → Option ℕ → StoredAwaiter A → Party F T A → Party F T A → Option (Held (StoredAwaiter A)) → Type 0
+  PutsClone i hand clone p q stood = Waits hand (held stood) × DidWith [] (after_storing i hand) (awaiter_first (Some clone) []) p q
+
+  -- the poll of this number has given the slot back with this awaiter in it
+  pub record GivesBack (i : ℕ) (stored : StoredAwaiter A) (p q : Party F T A) : Type 0 where
+    pub deeds : List Deed
+    pub between : Party F T A
+    pub word : State
+    pub number : stored_by stored ≡ i
+    pub has : DidWith deeds (Registered i) (awaiter_first (Some stored) []) p between
+    pub gives : Did (row EndRegister word ∷ []) (Looking i) between q
+
+-- the same, and the awaiter is a clone of the one that the poll was lent, as its type says
+abbrev pub StoresClone : {F T A K : Type 0} (G : Ghosts A K) → A → Party F T (AwaiterClone A K G) → Party F T (AwaiterClone A K G) → Type 0
+StoresClone {A = A} {K = K} G lent p q =
+    (stored : StoredAwaiter (AwaiterClone A K G)) × (stored.awaiter.lent.value ≡ lent) × GivesBack (poll_number (position p)) stored p q

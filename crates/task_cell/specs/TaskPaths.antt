@@ -10,6 +10,7 @@ use Rattle.task_core.specs.declared.acts.Act.TheVariants.{CancelOver, CancelBusy
 use Rattle.task_core.specs.declared.acts.Act.TheVariants.{DetachLast, Detach, EmptySlots, EndCall, HandOver, BeginNotify, MissNotify}
 use Rattle.task_core.specs.declared.acts.Act.TheVariants.{TakeAwaiter, EndNotify, WakeAwaiter}
 use Rattle.task_steps.specs.declared.table.Slot.{Slot}
+use Rattle.task_steps.specs.declared.stored.StoredAwaiter.{StoredAwaiter}
 use Rattle.task_steps.specs.declared.table.Deed.{Deed}
 use Rattle.task_cell.specs.declared.cell.Party.{Party}
 use Rattle.task_steps.specs.declared.task.Cancelled.{Cancelled}
@@ -73,12 +74,12 @@ module _ {F T A : Type 0} where
       × DidWith (row GiveUpOutput w ∷ []) OutputCloser (work_first z []) p q
   Detaches values p q Shared = (w : State) × Fits Detach w × Did (row Detach w ∷ act EndCall ∷ []) as_ended p q
   Detaches values p q Last =
-      (w : State) × (y : Option A) × Fits DetachLast w × DidWith (row DetachLast w ∷ []) (Emptier None Nothing) (awaiter_first y []) p q
+      (w : State) × (y : Option (StoredAwaiter A)) × Fits DetachLast w × DidWith (row DetachLast w ∷ []) (Emptier None Nothing) (awaiter_first y []) p q
   Detaches values p q Orphaned = (w : State) × Fits DetachOrphan w × Did (row DetachOrphan w ∷ []) (Deliverer false (ThenEnds Nothing)) p q
 
   -- the output that nobody claimed was dropped, and the Task given up; whether the slots are to be emptied
   abbrev pub GivesTaskUp : Party F T A → Party F T A → Bool → Type 0
   GivesTaskUp p q false = (w : State) × Fits Detach w × Did (act DropOutput ∷ row Detach w ∷ act EndCall ∷ []) as_ended p q
   GivesTaskUp p q true =
-      (w : State) × (y : Option A) × Fits DetachLast w
+      (w : State) × (y : Option (StoredAwaiter A)) × Fits DetachLast w
       × DidWith (act DropOutput ∷ row DetachLast w ∷ []) (Emptier None Nothing) (awaiter_first y []) p q

@@ -15,6 +15,7 @@ use Rattle.task_cell.specs.Calls.{Fits, IsNew, Did, DidWith}
 use Rattle.task_steps.specs.Deeds.{row, act}
 use Rattle.task_steps.specs.Standing.{as_waker, as_lent, as_ended, as_deliverer}
 use Rattle.task_steps.specs.WakerScripts.{others_left}
+use Rattle.task_steps.specs.declared.stored.StoredAwaiter.{StoredAwaiter}
 use Rattle.task_steps.specs.Steps.{awaiter_first}
 
 -- a gain, and whether there is a new waker: the count was below the limit, or at it
@@ -59,6 +60,6 @@ module _ {F T A : Type 0} where
   abbrev pub DropsWaker : Party F T A → Party F T A → Dropped → Type 0
   DropsWaker p q Shared = (w : State) × (others_left w ≡ true) × Did (row DropWaker w ∷ act EndCall ∷ []) as_ended p q
   DropsWaker p q Last =
-      (w : State) × (y : Option A) × (others_left w ≡ false) × (is_open w ≡ false)
+      (w : State) × (y : Option (StoredAwaiter A)) × (others_left w ≡ false) × (is_open w ≡ false)
       × DidWith (row DropLastWaker w ∷ []) (Emptier None Nothing) (awaiter_first y []) p q
   DropsWaker p q Orphaned = (w : State) × (others_left w ≡ false) × (is_open w ≡ true) × Did (row OrphanTask w ∷ []) OrphanHolder p q

@@ -16,6 +16,7 @@ use Rattle.task_laws.specs.declared.positions.Answer.TheVariants.{Nothing}
 use Rattle.task_laws.specs.declared.positions.NotifyingCall.TheVariants.{OfCancel}
 use Rattle.task_laws.specs.declared.positions.Position.TheVariants.{AwaiterInHand, CallEnding, Deliverer, Notifier, Releaser}
 use Rattle.task_laws.specs.declared.positions.Rest.TheVariants.{Task}
+use Rattle.task_steps.specs.declared.stored.StoredAwaiter.{StoredAwaiter}
 use Rattle.task_steps.specs.Deeds.{act, row}
 use Rattle.task_steps.specs.Standing.{as_task, handed_over, rest_of, way_of}
 use Rattle.task_steps.specs.declared.places.Held.{Held}
@@ -68,13 +69,13 @@ module _ {F T A : Type 0} where
   handed_alone n p q r due e x g = schedules_now x.0 x.2 (x.1 ∙ e) (subst (λ (b : Bool). Did (row CancelIdle x.0 ∷ act HandOver ∷ []) (notifies b (OfCancel n)) p r) e (delivered p q r n due (row CancelIdle x.0 ∷ []) x.3 g))
 
   -- the awaiter was moved out
-  pub is_in_hand : (n : ℕ) (hand : Option ℕ) (p q : Party F T A) (found : Option (Held A)) (a : Held A) → EndsNotify hand (OfCancel n) [] p q found → found ≡ Some a → Releases (OfCancel n) [] (act EndCall ∷ []) (as_task n) 12 p q 14
+  pub is_in_hand : (n : ℕ) (hand : Option ℕ) (p q : Party F T A) (found : Option (Held (StoredAwaiter A))) (a : Held (StoredAwaiter A)) → EndsNotify hand (OfCancel n) [] p q found → found ≡ Some a → Releases (OfCancel n) [] (act EndCall ∷ []) (as_task n) 12 p q 14
   is_in_hand n hand p q found a x e = let y = taken_hand (OfCancel n) [] hand p q found a x e (λ i. refl) in in_hand y.0 y.1 y.2
 
-  pub is_not_there : (n : ℕ) (hand : Option ℕ) (p q : Party F T A) (found : Option (Held A)) → EndsNotify hand (OfCancel n) [] p q found → found ≡ None → (v : State) × Did (row EndNotify v ∷ []) (CallEnding Nothing (Task n)) p q
+  pub is_not_there : (n : ℕ) (hand : Option ℕ) (p q : Party F T A) (found : Option (Held (StoredAwaiter A))) → EndsNotify hand (OfCancel n) [] p q found → found ≡ None → (v : State) × Did (row EndNotify v ∷ []) (CallEnding Nothing (Task n)) p q
   is_not_there n hand p q found x e = taken_none (OfCancel n) [] hand p q found x e
 
-  pub ends_not_there : (n : ℕ) (hand : Option ℕ) (p q r : Party F T A) (found : Option (Held A)) → EndsNotify hand (OfCancel n) [] p q found → found ≡ None → Did (act EndCall ∷ []) (rest_of (position q)) q r → Releases (OfCancel n) [] (act EndCall ∷ []) (as_task n) 12 p r 12
+  pub ends_not_there : (n : ℕ) (hand : Option ℕ) (p q r : Party F T A) (found : Option (Held (StoredAwaiter A))) → EndsNotify hand (OfCancel n) [] p q found → found ≡ None → Did (act EndCall ∷ []) (rest_of (position q)) q r → Releases (OfCancel n) [] (act EndCall ∷ []) (as_task n) 12 p r 12
   ends_not_there n hand p q r found x e g = let y = is_not_there n hand p q found x e in none_there y.0 (ends_after Nothing (Task n) (row EndNotify y.0 ∷ []) p q r y.1 g)
 
   -- the awaiter was woken

@@ -15,11 +15,21 @@ use Rattle.task_laws.specs.declared.positions.PollAnswer.{PollAnswer}
 use Rattle.task_laws.specs.declared.positions.Position.{Position}
 use Rattle.task_laws.specs.declared.positions.Position.TheVariants.{Answering, At, AwaiterInHand, CallEnding, Notifier, Releaser}
 use Rattle.task_laws.specs.declared.positions.Rest.{Rest}
+use Rattle.task_steps.specs.Rule.{Waits}
+use Rattle.task_steps.specs.Held.{held as hands}
+use Rattle.task_steps.specs.declared.stored.StoredAwaiter.{StoredAwaiter}
 use Rattle.task_steps.proofs.Bools.{never}
 use Rattle.task_steps.specs.Deeds.{act, row}
 use Rattle.task_steps.specs.Standing.{as_task, poll_number, rest_of, way_of}
 use Rattle.task_steps.specs.declared.places.Held.{Held}
 use Rattle.task_steps.specs.declared.table.Deed.{Deed}
+
+-- an awaiter is in hand where the machine says so
+pub both_there : {A : Type 0} (hand : Option ℕ) (found : Option (Held (StoredAwaiter A))) → Waits hand (hands found) → is_some found ≡ is_some hand
+both_there None None h = refl
+both_there (Some i) (Some a) h = refl
+both_there None (Some a) h = absurd h
+both_there (Some i) None h = absurd h
 
 module _ {F T A : Type 0} where
   -- the place of the awaiter is taken after a path
@@ -55,16 +65,16 @@ module _ {F T A : Type 0} where
   at_rest at held p s = record { cell = refl; is = s }
 
   -- what lay in the place is in hand
-  pub in_hand : (way : NotifyingCall) (held : List (ℕ × TaskPlace F T A)) (hand : Option ℕ) (p q : Party F T A) (found : Option (Held A)) (a : Held A) → EndsNotify hand way held p q found → found ≡ Some a → ((i : ℕ) → after_taking (Some i) way ≡ AwaiterInHand i way)
+  pub in_hand : (way : NotifyingCall) (held : List (ℕ × TaskPlace F T A)) (hand : Option ℕ) (p q : Party F T A) (found : Option (Held (StoredAwaiter A))) (a : Held (StoredAwaiter A)) → EndsNotify hand way held p q found → found ≡ Some a → ((i : ℕ) → after_taking (Some i) way ≡ AwaiterInHand i way)
       → (v : State) × (i : ℕ) × DidWith (row EndNotify v ∷ []) (AwaiterInHand i way) held p q
   in_hand way held (Some i) p q found a x e goes = (x.word, i, subst (λ at. DidWith (row EndNotify x.word ∷ []) at held p q) (goes i) x.did)
-  in_hand way held None p q found a x e goes = never (sym x.is_there ∙ ap (λ (z : Option (Held A)). is_some z) e)
+  in_hand way held None p q found a x e goes = absurd (subst (λ (z : Option (Held (StoredAwaiter A))). Waits None (hands z)) e x.is_there)
 
   -- nothing lay in the place
-  pub none_there : (way : NotifyingCall) (held : List (ℕ × TaskPlace F T A)) (hand : Option ℕ) (p q : Party F T A) (found : Option (Held A)) → EndsNotify hand way held p q found → found ≡ None
+  pub none_there : (way : NotifyingCall) (held : List (ℕ × TaskPlace F T A)) (hand : Option ℕ) (p q : Party F T A) (found : Option (Held (StoredAwaiter A))) → EndsNotify hand way held p q found → found ≡ None
       → (v : State) × DidWith (row EndNotify v ∷ []) (after_taking None way) held p q
   none_there way held None p q found x e = (x.word, x.did)
-  none_there way held (Some i) p q found x e = never (sym (ap (λ (z : Option (Held A)). is_some z) e) ∙ x.is_there)
+  none_there way held (Some i) p q found x e = absurd (subst (λ (z : Option (Held (StoredAwaiter A))). Waits (Some i) (hands z)) e x.is_there)
 
   -- the call ends after a path
   pub ends_after : (answer : Answer) (x : Rest) (path : List Deed) (p q r : Party F T A) → Did path (CallEnding answer x) p q → Did (act EndCall ∷ []) (rest_of (position q)) q r → Did (path ++ act EndCall ∷ []) (At x) p r

@@ -23,6 +23,8 @@ use Rattle.task_laws.specs.Table.{after_storing}
 use Rattle.task_laws.specs.declared.positions.NotifyingCall.TheVariants.{OfClaim, OfPoll}
 use Rattle.task_laws.specs.declared.positions.Position.{Position}
 use Rattle.task_laws.specs.declared.positions.Position.TheVariants.{Looking, Registrar, Releaser, TookBack, TookOutput, UnusedClone}
+use Rattle.task_steps.specs.Stored.{stored_by}
+use Rattle.task_steps.specs.declared.stored.StoredAwaiter.{StoredAwaiter}
 use Rattle.task_steps.proofs.Bools.{never}
 use Rattle.task_steps.specs.Deeds.{act, row}
 use Rattle.task_steps.specs.PollScripts.{has_ended, has_output, has_to_wait}
@@ -236,16 +238,16 @@ module _ {X W K : Type 0} (cloned : W → Result W K → Type 0) (woken woken_by
 module _ {F T A : Type 0} (i : ℕ) (p q : Party F T A) where
   -- the clone is to be put into the place, where nothing lies, or over an older awaiter
   abbrev pub Storing : Bool → Type 0
-  Storing stood = (old : Option ℕ) × (clone : A) × (is_some old ≡ stood) × (w : State) × (w.notifying ≡ false)
+  Storing stood = (old : Option ℕ) × (clone : StoredAwaiter A) × (is_some old ≡ stood) × (w : State) × (w.notifying ≡ false) × (stored_by clone ≡ i)
       × DidWith (act CloneAwaiter ∷ row BeginRegister w ∷ act StoreAwaiter ∷ []) (after_storing i old) (awaiter_first (Some clone) []) p q
 
   pub storing : (stood : Bool) (a : ℕ) → Stores i p q a → a ≡ (if stood then 21 else 20) → Storing stood
   storing false _ (store_missed _) h = differs 0 20 refl refl h
   storing true _ (store_missed _) h = differs 0 21 refl refl h
-  storing false _ (stores w _ clone _ e alone d) h = (None, clone, refl, w, e, d)
-  storing true _ (stores w _ clone _ e alone d) h = differs 20 21 refl refl h
-  storing false _ (stores w _ clone _ e (over old) d) h = differs 21 20 refl refl h
-  storing true _ (stores w _ clone _ e (over old) d) h = (Some old, clone, refl, w, e, d)
+  storing false _ (stores w _ clone _ e alone by d) h = (None, clone, refl, w, e, by, d)
+  storing true _ (stores w _ clone _ e alone by d) h = differs 20 21 refl refl h
+  storing false _ (stores w _ clone _ e (over old) by d) h = differs 21 20 refl refl h
+  storing true _ (stores w _ clone _ e (over old) by d) h = (Some old, clone, refl, w, e, by, d)
   storing false _ (finds_notifier w e d) h = differs 22 20 refl refl h
   storing true _ (finds_notifier w e d) h = differs 22 21 refl refl h
 
@@ -255,13 +257,13 @@ module _ {F T A : Type 0} (i : ℕ) (p q : Party F T A) where
 
   pub found_notifier : (a : ℕ) → Stores i p q a → a ≡ 22 → FoundNotifier
   found_notifier _ (store_missed _) h = differs 0 22 refl refl h
-  found_notifier _ (stores w _ clone _ e alone d) h = differs 20 22 refl refl h
-  found_notifier _ (stores w _ clone _ e (over old) d) h = differs 21 22 refl refl h
+  found_notifier _ (stores w _ clone _ e alone by d) h = differs 20 22 refl refl h
+  found_notifier _ (stores w _ clone _ e (over old) by d) h = differs 21 22 refl refl h
   found_notifier _ (finds_notifier w e d) h = (w, e, d)
 
   -- the clone is taken back, since a notifier came meanwhile
   abbrev pub TakingBack : Bool → Type 0
-  TakingBack stood = (clone : A) × DidWith (dropped_if stood ++ act TakeAwaiter ∷ []) (TookBack i) (awaiter_first (Some clone) []) p q
+  TakingBack stood = (clone : StoredAwaiter A) × DidWith (dropped_if stood ++ act TakeAwaiter ∷ []) (TookBack i) (awaiter_first (Some clone) []) p q
 
   not_back : {Y : Type 0} (b : Party F T A) (a : ℕ) → LooksOn i b q a → a ≡ 23 → Y
   not_back b _ (look_missed _) h = differs 0 23 refl refl h
@@ -317,7 +319,7 @@ module _ {F T A W K : Type 0} (cloned : W → Result W K → Type 0) (woken woke
     act CloneAwaiter ∷ row BeginRegister w ∷ act StoreAwaiter ∷ y.0,
     register_path cloned woken woken_by_ref awaiter w clone stood y.0 s.4 c y.1,
     (tt, (tt, (fact, registers_done did woken clone stood y.0 y.1))),
-    (l.0, did_then p q l.0 (act CloneAwaiter ∷ row BeginRegister w ∷ act StoreAwaiter ∷ []) y.0 (after_storing i s.0) (Looking i) (awaiter_first (Some s.1) []) [] s.5 l.1, l.2),
+    (l.0, did_then p q l.0 (act CloneAwaiter ∷ row BeginRegister w ∷ act StoreAwaiter ∷ []) y.0 (after_storing i s.0) (Looking i) (awaiter_first (Some s.1) []) [] s.6 l.1, l.2),
   )
 
   pub woke_caller : (clone : W) (told : K) (p q r : Party F T A) (a : ℕ) → cloned awaiter (Ok clone) → FoundNotifier i p q → woken_by_ref awaiter told → LooksAfter i (act DropAwaiter ∷ []) q r a → Registers p r a

@@ -13,6 +13,7 @@ use Rattle.task_laws.specs.Table.{after_waking}
 use Rattle.task_laws.specs.declared.positions.NotifyingCall.TheVariants.{OfClaim, OfPoll}
 use Rattle.task_laws.specs.declared.positions.PollAnswer.TheVariants.{IsClosed}
 use Rattle.task_laws.specs.declared.positions.Position.TheVariants.{Answering, AwaiterInHand, TookOutput}
+use Rattle.task_steps.specs.declared.stored.StoredAwaiter.{StoredAwaiter}
 use Rattle.task_steps.specs.Deeds.{act, row}
 use Rattle.task_steps.specs.Standing.{as_task, poll_number, way_of}
 use Rattle.task_steps.specs.declared.places.Held.{Held}
@@ -29,13 +30,13 @@ is_there false e = absurd (cc)
 
 module _ {F T A : Type 0} where
   -- a closed task: what lay in the place
-  pub poll_has_hand : (i : ℕ) (hand : Option ℕ) (p q : Party F T A) (found : Option (Held A)) (a : Held A) → EndsNotify hand (OfPoll i) [] p q found → found ≡ Some a → Releases (OfPoll i) [] (act EndCall ∷ []) (as_task i) 17 p q 14
+  pub poll_has_hand : (i : ℕ) (hand : Option ℕ) (p q : Party F T A) (found : Option (Held (StoredAwaiter A))) (a : Held (StoredAwaiter A)) → EndsNotify hand (OfPoll i) [] p q found → found ≡ Some a → Releases (OfPoll i) [] (act EndCall ∷ []) (as_task i) 17 p q 14
   poll_has_hand i hand p q found a x e = let y = taken_hand (OfPoll i) [] hand p q found a x e (λ j. refl) in in_hand y.0 y.1 y.2
 
-  pub poll_has_none : (i : ℕ) (hand : Option ℕ) (p q : Party F T A) (found : Option (Held A)) → EndsNotify hand (OfPoll i) [] p q found → found ≡ None → (v : State) × Did (row EndNotify v ∷ []) (Answering i IsClosed) p q
+  pub poll_has_none : (i : ℕ) (hand : Option ℕ) (p q : Party F T A) (found : Option (Held (StoredAwaiter A))) → EndsNotify hand (OfPoll i) [] p q found → found ≡ None → (v : State) × Did (row EndNotify v ∷ []) (Answering i IsClosed) p q
   poll_has_none i hand p q found x e = taken_none (OfPoll i) [] hand p q found x e
 
-  pub poll_ends_alone : (i : ℕ) (hand : Option ℕ) (p q r : Party F T A) (found : Option (Held A)) → EndsNotify hand (OfPoll i) [] p q found → found ≡ None → Did (act EndCall ∷ []) (as_task (poll_number (position q))) q r → Releases (OfPoll i) [] (act EndCall ∷ []) (as_task i) 17 p r 17
+  pub poll_ends_alone : (i : ℕ) (hand : Option ℕ) (p q r : Party F T A) (found : Option (Held (StoredAwaiter A))) → EndsNotify hand (OfPoll i) [] p q found → found ≡ None → Did (act EndCall ∷ []) (as_task (poll_number (position q))) q r → Releases (OfPoll i) [] (act EndCall ∷ []) (as_task i) 17 p r 17
   poll_ends_alone i hand p q r found x e g = let y = poll_has_none i hand p q found x e in none_there y.0 (poll_ends_after i IsClosed (row EndNotify y.0 ∷ []) p q r y.1 g)
 
   -- a poll of a closed task ends, once what lay in the place was dealt with
@@ -46,10 +47,10 @@ module _ {F T A : Type 0} where
   poll_ends_dealt i k path p q r s g e = poll_ends_after i IsClosed path p q r (poll_dealt i k path p q s g) e
 
   -- a claimed output
-  pub claim_has_hand : (i : ℕ) (z : Slot F T) (hand : Option ℕ) (p q : Party F T A) (found : Option (Held A)) (a : Held A) → EndsNotify hand (OfClaim i) (work_first z []) p q found → found ≡ Some a → Releases (OfClaim i) (work_first z []) [] (TookOutput i) 16 p q 14
+  pub claim_has_hand : (i : ℕ) (z : Slot F T) (hand : Option ℕ) (p q : Party F T A) (found : Option (Held (StoredAwaiter A))) (a : Held (StoredAwaiter A)) → EndsNotify hand (OfClaim i) (work_first z []) p q found → found ≡ Some a → Releases (OfClaim i) (work_first z []) [] (TookOutput i) 16 p q 14
   claim_has_hand i z hand p q found a x e = let y = taken_hand (OfClaim i) (work_first z []) hand p q found a x e (λ j. refl) in in_hand y.0 y.1 y.2
 
-  pub claim_has_none : (i : ℕ) (z : Slot F T) (hand : Option ℕ) (p q : Party F T A) (found : Option (Held A)) → EndsNotify hand (OfClaim i) (work_first z []) p q found → found ≡ None → Releases (OfClaim i) (work_first z []) [] (TookOutput i) 16 p q 16
+  pub claim_has_none : (i : ℕ) (z : Slot F T) (hand : Option ℕ) (p q : Party F T A) (found : Option (Held (StoredAwaiter A))) → EndsNotify hand (OfClaim i) (work_first z []) p q found → found ≡ None → Releases (OfClaim i) (work_first z []) [] (TookOutput i) 16 p q 16
   claim_has_none i z hand p q found x e = let y = taken_none (OfClaim i) (work_first z []) hand p q found x e in none_there y.0 y.1
 
   pub claim_dealt : (i k : ℕ) (z : Slot F T) (path : List Deed) (p q : Party F T A) → StandsWith (AwaiterInHand k (OfClaim i)) (work_first z []) p → DidWith path (after_waking (way_of (position p))) (places_of p) p q → DidWith path (TookOutput i) (work_first z []) p q

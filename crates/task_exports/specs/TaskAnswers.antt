@@ -15,6 +15,8 @@ use Rattle.task_laws.specs.declared.positions.Position.TheVariants.{AwaiterInHan
 use Rattle.task_laws.specs.declared.positions.Position.TheVariants.{Registered, Registrar, Releaser, TookBack, TookOutput, UnusedClone}
 use Rattle.task_laws.specs.Table.{after_storing, notifies}
 use Rattle.task_steps.specs.Attempts.{HasMissed}
+use Rattle.task_steps.specs.Stored.{stored_by}
+use Rattle.task_steps.specs.declared.stored.StoredAwaiter.{StoredAwaiter}
 use Rattle.task_steps.specs.declared.table.Deed.{Deed}
 use Rattle.task_steps.specs.declared.table.Slot.{Slot}
 use Rattle.task_steps.specs.Deeds.{row, act}
@@ -54,7 +56,7 @@ pub data IsStored : Option ℕ → ℕ → Type 0 where
 module _ {F T A : Type 0} where
   -- the place of the awaiter is the party's, and what the machine says lies there
   abbrev pub AtPlace : NotifyingCall → List (ℕ × TaskPlace F T A) → Party F T A → Type 0
-  AtPlace way held p = (hand : Option ℕ) × (y : Option A) × Waits hand y × StandsWith (Releaser hand way) (awaiter_first y held) p
+  AtPlace way held p = (hand : Option ℕ) × (y : Option (StoredAwaiter A)) × Waits hand y × StandsWith (Releaser hand way) (awaiter_first y held) p
 
   -- what lay in the place of the awaiter is in hand
   abbrev pub InHand : NotifyingCall → List (ℕ × TaskPlace F T A) → Party F T A → Type 0
@@ -63,20 +65,22 @@ module _ {F T A : Type 0} where
   -- the place is the party's after this path, by the word that it was taken on
   abbrev pub TakesPlace : NotifyingCall → (State → List Deed) → List (ℕ × TaskPlace F T A) → Party F T A → Party F T A → Type 0
   TakesPlace way path held p q =
-      (v : State) × (hand : Option ℕ) × (y : Option A) × Fits BeginNotify v × Waits hand y
+      (v : State) × (hand : Option ℕ) × (y : Option (StoredAwaiter A)) × Fits BeginNotify v × Waits hand y
       × DidWith (path v) (Releaser hand way) (awaiter_first y held) p q
 
   -- the clone of poll i is in the place of the awaiter, and whether an older awaiter stood there, which has not been dropped yet
   abbrev pub HasStored : ℕ → Bool → Party F T A → Type 0
-  HasStored i stood p = (old : Option ℕ) × (clone : A) × (is_some old ≡ stood) × StandsWith (after_storing i old) (awaiter_first (Some clone) []) p
+  HasStored i stood p =
+      (old : Option ℕ) × (clone : StoredAwaiter A) × (is_some old ≡ stood) × (stored_by clone ≡ i)
+      × StandsWith (after_storing i old) (awaiter_first (Some clone) []) p
 
   -- the clone of poll i was put into the place of the awaiter
   abbrev pub PutsIn : ℕ → Option ℕ → Party F T A → Party F T A → ℕ → Type 0
-  PutsIn i old p q r = IsStored old r × (clone : A) × DidWith [] (after_storing i old) (awaiter_first (Some clone) []) p q
+  PutsIn i old p q r = IsStored old r × (clone : StoredAwaiter A) × (stored_by clone ≡ i) × DidWith [] (after_storing i old) (awaiter_first (Some clone) []) p q
 
   -- the clone stays in the place, and an older awaiter is written down as dropped
   abbrev pub Settles : ℕ → Bool → Party F T A → Party F T A → Type 0
-  Settles i stood p q = (clone : A) × DidWith (dropped_if stood) (Registered i) (awaiter_first (Some clone) []) p q
+  Settles i stood p q = (clone : StoredAwaiter A) × (stored_by clone ≡ i) × DidWith (dropped_if stood) (Registered i) (awaiter_first (Some clone) []) p q
 
   -- a poll whose output was claimed, and which has the place of the awaiter
   abbrev pub ClaimAtPlace : ℕ → Slot F T → Party F T A → Type 0
@@ -156,7 +160,7 @@ module _ {F T A : Type 0} where
   -- the place of the awaiter is taken for the clone, which the cell has in it; or a notifier is there
   pub data Stores (i : ℕ) (p q : Party F T A) : ℕ → Type 0 where
     store_missed : HasMissed (2 ^ 64 - 1) q.seat.me → Stores i p q 0
-    stores : (w : State) (old : Option ℕ) (clone : A) (r : ℕ) → w.notifying ≡ false → IsStored old r
+    stores : (w : State) (old : Option ℕ) (clone : StoredAwaiter A) (r : ℕ) → w.notifying ≡ false → IsStored old r → stored_by clone ≡ i
         → DidWith (act CloneAwaiter ∷ row BeginRegister w ∷ act StoreAwaiter ∷ []) (after_storing i old) (awaiter_first (Some clone) []) p q
         → Stores i p q r
     finds_notifier : (w : State) → w.notifying ≡ true → Did (act CloneAwaiter ∷ row FindNotify w ∷ []) (UnusedClone i) p q
@@ -167,7 +171,7 @@ module _ {F T A : Type 0} where
     end_missed : HasMissed (2 ^ 64 - 1) q.seat.me → EndsStore i stood p q 0
     looks : (v : State) (r : ℕ) → v.notifying ≡ false → LooksAfter i (dropped_if stood ++ row EndRegister v ∷ []) p q r
         → EndsStore i stood p q r
-    has_to_take_back : (clone : A) → DidWith (dropped_if stood ++ act TakeAwaiter ∷ []) (TookBack i) (awaiter_first (Some clone) []) p q
+    has_to_take_back : (clone : StoredAwaiter A) → DidWith (dropped_if stood ++ act TakeAwaiter ∷ []) (TookBack i) (awaiter_first (Some clone) []) p q
         → EndsStore i stood p q 23
 
 module _ {F T A : Type 0} where

@@ -16,7 +16,6 @@ use crate::hand::{CellParty, CellShare, Waits};
 use crate::look::look_again;
 use crate::step::Step;
 use crate::task_answers::{REPLACE, STORE, TAKE_BACK, WAKE_CALLER};
-use task_steps::places::Held;
 
 // Puts the clone into the place of the awaiter, which the party has taken.
 fn put_in(share: &CellShare, party: &mut CellParty) -> u32
@@ -24,7 +23,8 @@ fn put_in(share: &CellShare, party: &mut CellParty) -> u32
     requires party { (i : ℕ) × (hand : Option ℕ) × (y : Option _) × StandsWith (after_storing i hand) (awaiter_first y []) party.old × SlotWaits hand y }
     ensures { (i : ℕ) (hand : Option ℕ) (y : Option _) → StandsWith (after_storing i hand) (awaiter_first y []) party.old → SlotWaits hand y → PutsIn i hand party.old party.new result }
 {
-    match share.put_clone(party, Held::new(Waits)) {
+    let clone = party.to_store(Waits);
+    match share.put_clone(party, clone) {
         Some(old) => {
             old.discard();
             REPLACE

@@ -8,6 +8,7 @@ use Rattle.atomic_table.proofs.Lists as lists
 use Rattle.task_steps.proofs.Vocabulary.{bit, number_of, is_open, Position, Act, Slots, Outcome, Machine, scene, how_many, owns_awaiter, Invariant, First, Second, Slot, Empty, TaskPlace, Deed, Member, View}
 use Rattle.task_steps.specs.PollScripts.{has_ended}
 use Rattle.task_steps.specs.Values.{Values}
+use Rattle.task_steps.specs.declared.stored.StoredAwaiter.{StoredAwaiter}
 use Rattle.task_steps.specs.Rule.{has_work, IsFuture, IsOutput, Lies, Waits, WorkAtHome, AwaiterAtHome, HomesAgree, RuleHolds}
 use Rattle.task_steps.specs.Steps.{work_first, awaiter_first, TakesFuture, TakesOutput, Works, Awaits, Carries, Carried, saw_over, saw_closed, saw_ended}
 use Rattle.task_steps.proofs.Acts.{leads}
@@ -53,8 +54,8 @@ module _ {F T A : Type 0} (values : Values F T) where
     takes_future : has_work p ≡ false → has_work o.next ≡ true → owns_awaiter o.next ≡ owns_awaiter p → (owns_awaiter p ≡ true) ⊎ SameAwaiter m o → m.slots.future ≡ true → ((l' : List (ℕ × TaskPlace F T A)) → TakesFuture values l l' → Works values o.next l l') → Placing m p o l
     takes_output : has_work p ≡ false → has_work o.next ≡ true → owns_awaiter o.next ≡ owns_awaiter p → (owns_awaiter p ≡ true) ⊎ SameAwaiter m o → m.slots.output ≡ true → ((l' : List (ℕ × TaskPlace F T A)) → TakesOutput values l l' → Works values o.next l l') → Placing m p o l
     gives_work : (y : Slot F T) → has_work p ≡ true → has_work o.next ≡ false → owns_awaiter o.next ≡ owns_awaiter p → (owns_awaiter p ≡ true) ⊎ SameAwaiter m o → l ≡ work_first y (rest l) → Lies values o.slots.future o.slots.output y → Placing m p o l
-    takes_awaiter : owns_awaiter p ≡ false → owns_awaiter o.next ≡ true → has_work o.next ≡ has_work p → (has_work p ≡ true) ⊎ SameWork m o → ((y : Option A) → Waits m.slots.awaiter y → Awaits o.next y) → Placing m p o l
-    gives_awaiter : (y : Option A) → owns_awaiter p ≡ true → owns_awaiter o.next ≡ false → has_work o.next ≡ has_work p → (has_work p ≡ true) ⊎ SameWork m o → l ≡ awaiter_first y (rest l) → Waits o.slots.awaiter y → Placing m p o l
+    takes_awaiter : owns_awaiter p ≡ false → owns_awaiter o.next ≡ true → has_work o.next ≡ has_work p → (has_work p ≡ true) ⊎ SameWork m o → ((y : Option (StoredAwaiter A)) → Waits m.slots.awaiter y → Awaits o.next y) → Placing m p o l
+    gives_awaiter : (y : Option (StoredAwaiter A)) → owns_awaiter p ≡ true → owns_awaiter o.next ≡ false → has_work o.next ≡ has_work p → (has_work p ≡ true) ⊎ SameWork m o → l ≡ awaiter_first y (rest l) → Waits o.slots.awaiter y → Placing m p o l
 
   -- the step of a party at p that makes these acts, finds the machine so, and writes this number
   pub record Steps (m : Machine) (p : Position) (acts : List Act) (new : ℕ) (l : List (ℕ × TaskPlace F T A)) : Type 0 where
@@ -162,7 +163,7 @@ module _ (F T A : Type 0) (values : Values F T) (limit : ℕ) where
   carries_same false true q l = refl
   carries_same false false q l = refl
 
-  carries_awaiter : (a : Bool) (q : Position) (y : Option A) (l : List (ℕ × TaskPlace F T A)) → Awaits q y → CarriesAt q l (awaiter_first y l) a a false true
+  carries_awaiter : (a : Bool) (q : Position) (y : Option (StoredAwaiter A)) (l : List (ℕ × TaskPlace F T A)) → Awaits q y → CarriesAt q l (awaiter_first y l) a a false true
   carries_awaiter true q y l h = (y, h, refl)
   carries_awaiter false q y l h = (y, h, refl)
 

@@ -2,7 +2,7 @@
 use Rattle.std.proofs.Common.{◌≡◌, ℕ, zero, suc, ◌+◌, ◌*◌, ◌/◌, ◌%◌, ◌≤◌, Bool, true, false, Some, List, [], ◌∷◌, ◌++◌, set, sym, refl, ap, subst, arith}
 use mathlib.Core.Option.{some, some-injective, some-ne-none}
 use lib.ListN.{get_elem?}
-use Rattle.task_steps.proofs.Vocabulary.{State, bit, number_of, Position, At, Runnable, Slots, Outcome, where_found, when, Event, Machine, how_many, Census, weigh, census, plus, runs, closers, Awaiting, join, await, awaiting, Holds, Invariant, Stays, always}
+use Rattle.task_steps.proofs.Vocabulary.{State, bit, number_of, Position, At, Runnable, Slots, Outcome, where_found, when, Event, Machine, how_many, Census, weigh, census, plus, runs, closers, Awaiting, join, await, awaiting, fits, Holds, Invariant, Stays, always}
 use Rattle.task_steps.specs.Rule.{Entry, Reaches, steps_of, has_work}
 use Rattle.task_steps.proofs.Explains as told
 
@@ -50,6 +50,14 @@ pub counted_awaiting : (count : Awaiting → ℕ) → ((a b : Awaiting) → coun
 counted_awaiting count sums i [] k p e = absurd (some-ne-none p (sym e))
 counted_awaiting count sums i (x ∷ xs) zero p e = let is : count (await i x) ≡ count (await i p) = ap (λ y. count (await i y)) (some-injective x p e) in omega (arith, sums (await i x) (awaiting i xs))
 counted_awaiting count sums i (x ∷ xs) (suc k) p e = let h = counted_awaiting count sums i xs k p e in omega (arith, sums (await i x) (awaiting i xs))
+
+-- who knows the number of its poll is the Task, so nobody else knows one
+pub number_is : (i : ℕ) (ps : List Position) (k : ℕ) (p : Position) → get_elem? ps k ≡ some p → 1 ≤ (await i p).numbered → (awaiting i ps).numbered ≤ 1 → (awaiting i ps).number ≡ (await i p).number
+number_is i [] k p e has one = absurd (some-ne-none p (sym e))
+number_is i (x ∷ xs) zero p e has one = let same : await i x ≡ await i p = ap (await i) (some-injective x p e) in let knows : (await i x).numbered ≡ (await i p).numbered = ap (λ b. b.numbered) same in
+    let is : (await i x).number ≡ (await i p).number = ap (λ b. b.number) same in let none = (fits i xs).number (omega (arith, knows, has, one)) in omega (arith, is, none)
+number_is i (x ∷ xs) (suc k) p e has one = let here = counted_awaiting (λ b. b.numbered) (λ a b. refl) i xs k p e in let h = number_is i xs k p e has (omega (arith, one)) in
+    let none = (fits i (x ∷ [])).number (omega (arith, here, has, one)) in omega (arith, h, none)
 
 -- how many parties after an act
 pub many_set : (f : Position → Bool) (ps : List Position) (k : ℕ) (p q : Position) → get_elem? ps k ≡ some p → how_many f (set ps k q) + bit (f p) ≡ how_many f ps + bit (f q)

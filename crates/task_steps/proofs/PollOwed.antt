@@ -1,18 +1,22 @@
 -- What each step of a poll of the Task owes: the machine allows its acts, and writes its number.
 use Rattle.std.proofs.Common.{◌≡◌, ℕ, ◌+◌, ◌≤◌, Bool, true, false, not, ◌&&◌, ◌||◌, Option, Some, None, List, [], ◌∷◌, refl, sym, ap, ◌∙◌, subst, inl, inr, ⊎_elim, arith}
+use mathlib.Core.Option.{some}
+use lib.ListN.{get_elem?}
 use Rattle.std.specs.Prelude.{if◌then◌else◌, bit_and}
 use Rattle.atomic_table.specs.Table.{rest}
 use Rattle.task_steps.proofs.Vocabulary.{State, state_of, number_of, found, written, Event, TaskPollBegins, TaskPollEnds, Closes, PollAnswer, IsPending, Position, OfPoll, OfClaim, At, Notifier, Looking, SawOutput, TookOutput}
-use Rattle.task_steps.proofs.Vocabulary.{RefuseClone, Answering, Registrar, UnusedClone, Registered, TookBack, CloneInHand, Task, Act, Look, ClaimOutput, EndCall, Slots, leaves_slots}
-use Rattle.task_steps.proofs.Vocabulary.{when, notifies, first_look, second_look, after_storing, Machine, scene, count, is_task_poll, owns_awaiter, Census, census, Awaiting, awaiting, HandshakeHolds, Holds, state_of_number_of}
+use Rattle.task_steps.proofs.Vocabulary.{RefuseClone, Answering, Registrar, UnusedClone, Registered, OldAwaiterInHand, TookBack, CloneInHand, Task, Act, Look, ClaimOutput, EndCall, Slots, leaves_slots}
+use Rattle.task_steps.proofs.Vocabulary.{when, notifies, first_look, second_look, after_storing, Machine, scene, count, is_task_poll, owns_awaiter, Census, census, Awaiting, awaiting, HandshakeHolds, Holds, fits, state_of_number_of}
 use Rattle.task_steps.proofs.Vocabulary.{DropAwaiter, WakeAwaiter, fetch_and-awaiter_registering_notifying, Invariant, TaskPlace, Empty, Deed, Member}
 use Rattle.task_steps.specs.Values.{Values}
+use Rattle.task_steps.specs.declared.stored.StoredAwaiter.{StoredAwaiter}
+use Rattle.task_steps.specs.Stored.{stored_by}
 use Rattle.task_steps.specs.Rule.{has_work, Waits}
 use Rattle.task_steps.specs.Steps.{and_then, spot, work_first, awaiter_first, TakesOutput, Works, Awaits}
 use Rattle.task_steps.specs.PollScripts.{has_output, has_ended, has_to_wait, handing_out, ending_notified, to_look, to_look_again, to_begin_register, to_end_register}
 use Rattle.task_steps.proofs.Bools.{never}
 use Rattle.task_steps.proofs.Acts.{leads}
-use Rattle.task_steps.proofs.Facts.{counted, counted_awaiting}
+use Rattle.task_steps.proofs.Facts.{bit_le, counted, counted_awaiting, number_is}
 use Rattle.task_steps.proofs.Advance.{stays, takes_output, gives_work, lies_nowhere, takes_awaiter, gives_awaiter, Steps, keeps_places}
 use Rattle.task_steps.proofs.Computed.{by_table, computed, noted, row_fits, guarded}
 use Rattle.task_steps.proofs.Allowed.{Owes, OwesChange, OwesEnd}
@@ -81,6 +85,18 @@ was_taken_back i w slots t b h e = ⊎_elim (λ (z : b.takers_back ≡ 0). absur
 clone_stored : (i : ℕ) (w : State) (slots : Slots) (t : List Event) (b : Awaiting) → HandshakeHolds i w slots t b → 1 ≤ b.registered → slots.awaiter ≡ Some (count is_task_poll t)
 clone_stored i w slots t b h e = ⊎_elim (λ (z : b.registered ≡ 0). absurd (omega arith)) (λ z. z) h.own
 
+-- a poll that knows its number is the newest
+is_newest : (i : ℕ) (w : State) (slots : Slots) (t : List Event) (b : Awaiting) → HandshakeHolds i w slots t b → 1 ≤ b.numbered → b.number ≡ count is_task_poll t
+is_newest i w slots t b h e = ⊎_elim (λ (z : b.numbered ≡ 0). absurd (omega arith)) (λ z. z) h.numbers
+
+-- .. so its number is the one of the clone that it has stored
+stored_number : (i : ℕ) (m : Machine) (k : ℕ) → Invariant m → get_elem? m.parties k ≡ some (Registered i) → m.slots.awaiter ≡ Some i
+stored_number i m k v e = let b = awaiting i m.parties in
+    let stored = clone_stored i m.word m.slots m.trace b (v.shakes i) (counted_awaiting (λ b. b.registered) (λ a b. refl) i m.parties k (Registered i) e) in
+    let few : b.numbered ≤ 1 = omega (arith, (fits i m.parties).numbered, v.holds.task, bit_le m.word.task) in
+    let newest = is_newest i m.word m.slots m.trace b (v.shakes i) (counted_awaiting (λ b. b.numbered) (λ a b. refl) i m.parties k (Registered i) e) in
+    stored ∙ ap Some (sym newest ∙ number_is i m.parties k (Registered i) e (omega arith) few)
+
 -- a word that has the output
 pub output_lies : (m : Machine) → Invariant m → has_output m.word ≡ true → m.slots.output ≡ true
 output_lies m i e = output_there m.limit m.word m.slots m.trace (census m.parties) i.holds e
@@ -95,10 +111,9 @@ module _ (limit : ℕ) where
   pub drops_clone : (i : ℕ) (ds : List Deed) (us : List Member) → OwesNote limit (DropAwaiter ∷ []) (UnusedClone i) ds us
   drops_clone i ds us m f = noted refl refl refl
 
-  -- an awaiter is stored where the slot tells that there was one
-  pub drops_stored : {A : Type 0} (i : ℕ) (hand : Option ℕ) (a : A) → Waits hand (Some a) → (ds : List Deed) (us : List Member) → OwesNote limit (DropAwaiter ∷ []) (after_storing i hand) ds us
-  drops_stored i None a h ds us m f = absurd h
-  drops_stored i (Some old) a h ds us m f = noted refl refl refl
+  -- an awaiter is stored over an older one, which stood in the slot
+  pub drops_stored : (i old : ℕ) (ds : List Deed) (us : List Member) → OwesNote limit (DropAwaiter ∷ []) (OldAwaiterInHand i old) ds us
+  drops_stored i old ds us m f = noted refl refl refl
 
   pub wakes_clone : (i : ℕ) (ds : List Deed) (us : List Member) → OwesNote limit (WakeAwaiter ∷ []) (CloneInHand i) ds us
   wakes_clone i ds us m f = noted refl refl refl
@@ -143,16 +158,16 @@ module _ (F T A : Type 0) (values : Values F T) (limit : ℕ) where
   stored_free i None = (refl, refl)
   stored_free i (Some old) = (refl, refl)
 
-  stored_awaits : (i : ℕ) (hand : Option ℕ) (y : Option A) → Waits hand y → Awaits (after_storing i hand) y
+  stored_awaits : (i : ℕ) (hand : Option ℕ) (y : Option (StoredAwaiter A)) → Waits hand y → Awaits (after_storing i hand) y
   stored_awaits i None y h = h
   stored_awaits i (Some old) y h = h
 
   pub begins_register : (i : ℕ) (ds : List Deed) (us : List Member) (l : List (ℕ × TaskPlace F T A)) → OwesChange F T A values limit to_begin_register (Registrar i) ds us l
   begins_register i ds us l m f fit = let s = stored_free i m.slots.awaiter in by_table m (row_fits fit) refl (refl, refl) (takes_awaiter refl s.1 s.0 (inr (refl, refl)) (stored_awaits i m.slots.awaiter))
 
-  pub ends_register : (i : ℕ) (ds : List Deed) (us : List Member) (a : A) (l : List (ℕ × TaskPlace F T A)) → l ≡ awaiter_first (Some a) (rest l) → OwesChange F T A values limit to_end_register (Registered i) ds us l
-  ends_register i ds us a l has m f fit = let stored = clone_stored i m.word m.slots m.trace (awaiting i m.parties) (f.invariant.shakes i) (counted_awaiting (λ b. b.registered) (λ a b. refl) i m.parties f.number (Registered i) f.stands) in by_table m (row_fits fit) refl (refl, refl)
-      (gives_awaiter (Some a) refl refl refl (inr (refl, refl)) has (subst (λ (hand : Option ℕ). Waits hand (Some a)) (sym stored) tt))
+  pub ends_register : (i : ℕ) (ds : List Deed) (us : List Member) (a : StoredAwaiter A) (l : List (ℕ × TaskPlace F T A)) → stored_by a ≡ i → l ≡ awaiter_first (Some a) (rest l) → OwesChange F T A values limit to_end_register (Registered i) ds us l
+  ends_register i ds us a l by has m f fit = by_table m (row_fits fit) refl (refl, refl)
+      (gives_awaiter (Some a) refl refl refl (inr (refl, refl)) has (subst (λ (hand : Option ℕ). Waits hand (Some a)) (sym (stored_number i m f.number f.invariant f.stands)) by))
 
   -- the clone is taken back while its place is still the poll's
   pub takes_back : (i : ℕ) (ds : List Deed) (us : List Member) (l : List (ℕ × TaskPlace F T A)) → OwesEnd F T A values limit to_end_register (Registered i) ds us l

@@ -40,7 +40,7 @@ pub use Rattle.task_laws.specs.Machine.{Machine, Step, after, begins, how_many, 
 pub use Rattle.task_laws.specs.Table.{Outcome, Scene, Slots, after_cancelling, after_giving_up, after_handing_over, after_storing, after_taking, after_waking}
 pub use Rattle.task_laws.specs.Table.{changes_slots, ended_clone, first_look, outcome_at, is_held, leaves_slots, may_ask, may_drop, may_gain, may_wake}
 pub use Rattle.task_laws.specs.Table.{notifies, rule, second_look, when, where_found}
-pub use Rattle.task_laws.proofs.Awaiting.{Awaiting, await, awaiting, join}
+pub use Rattle.task_laws.proofs.Awaiting.{Awaiting, await, awaiting, fits, join}
 pub use Rattle.task_laws.proofs.Census.{Census, census, closers, plus, runs, weigh}
 pub use Rattle.task_laws.proofs.Handshake.{HandshakeHolds}
 pub use Rattle.task_laws.proofs.Invariant.{Holds}

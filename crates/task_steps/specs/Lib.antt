@@ -1,9 +1,10 @@
 pub mod Values
+pub mod Standing
+pub mod Stored
 pub mod Rule
 pub mod Left
 pub mod Steps
 pub mod Deeds
-pub mod Standing
 pub mod Seats
 pub mod Spawns
 pub mod Attempt

@@ -1,4 +1,4 @@
--- The rule of the table: an interleaving of the machine ends in the present word, each party of a seat did in it what the seat knows, and each value in place 0 comes from the future that was spawned.
+-- The rule of the table: an interleaving of the machine ends in the present word, each party of a seat did in it what the seat knows, each value in place 0 comes from the future that was spawned, and the awaiter in place 1 is the one that the poll stored whose number the machine has.
 use Rattle.std.specs.Prelude.{◌≡◌, ◌≢◌, ℕ, ◌+◌, ◌<◌, ◌≤◌, Bool, true, false, not, ◌&&◌, ◌||◌, cond, eqb, nat_lt, is_none, List, [], ◌∷◌, ◌++◌, length, slice_index}
 use Rattle.std.specs.Prelude.{Option, Some, None}
 use mathlib.Core.Option.{some}
@@ -22,6 +22,8 @@ use Rattle.task_laws.specs.Holders.{owns_awaiter}
 use Rattle.task_steps.specs.declared.table.Slot.{Slot}
 use Rattle.task_steps.specs.declared.table.Slot.TheVariants.{Empty, Future, Output}
 use Rattle.task_steps.specs.Values.{Values}
+use Rattle.task_steps.specs.declared.stored.StoredAwaiter.{StoredAwaiter}
+use Rattle.task_steps.specs.Stored.{stored_by}
 use Rattle.task_steps.specs.declared.table.Deed.{Deed}
 use Rattle.task_steps.specs.declared.table.Tries.{Tries}
 use Rattle.task_steps.specs.declared.table.Member.{Member}
@@ -157,9 +159,9 @@ has_work (Releaser hand (OfClaim n)) = true
 has_work (AwaiterInHand i (OfClaim n)) = true
 has_work _ = false
 
--- what lies in a place: in place 0 nothing, the future or the output, and in place 1 an awaiter or none
+-- what lies in a place: in place 0 nothing, the future or the output, and in place 1 an awaiter that a poll has stored, or none
 abbrev pub TaskPlace : Type 0 → Type 0 → Type 0 → Type 0
-TaskPlace F T A = Place (Slot F T) (Option A)
+TaskPlace F T A = Place (Slot F T) (Option (StoredAwaiter A))
 
 -- nothing lies in place 0
 abbrev pub IsEmpty : {F T : Type 0} → Slot F T → Type 0
@@ -186,10 +188,10 @@ module _ {F T : Type 0} (values : Values F T) where
   Lies false true y = IsOutput y
   Lies false false y = IsEmpty y
 
--- the awaiter slot holds what the machine says
-abbrev pub Waits : {A : Type 0} → Option ℕ → Option A → Type 0
+-- the awaiter slot holds what the machine says: the awaiter that the poll of this number has stored
+abbrev pub Waits : {A : Type 0} → Option ℕ → Option (StoredAwaiter A) → Type 0
 Waits None None = Unit {0}
-Waits (Some i) (Some a) = Unit {0}
+Waits (Some i) (Some a) = stored_by a ≡ i
 Waits None (Some a) = ⊥
 Waits (Some i) None = ⊥
 
@@ -199,8 +201,8 @@ module _ {F T A : Type 0} where
   WorkAtHome homes Is = (y : Slot F T) × (get_elem? homes 0 ≡ some (some (First y))) × Is y
 
   -- place 1 is
-  abbrev pub AwaiterAtHome : List (maybe.Option (TaskPlace F T A)) → (Option A → Type 0) → Type 0
-  AwaiterAtHome homes Is = (y : Option A) × (get_elem? homes 1 ≡ some (some (Second y))) × Is y
+  abbrev pub AwaiterAtHome : List (maybe.Option (TaskPlace F T A)) → (Option (StoredAwaiter A) → Type 0) → Type 0
+  AwaiterAtHome homes Is = (y : Option (StoredAwaiter A)) × (get_elem? homes 1 ≡ some (some (Second y))) × Is y
 
   -- a place that no party has is at home, with what the machine says
   pub record HomesAgree (values : Values F T) (m : Machine) (homes : List (maybe.Option (TaskPlace F T A))) : Type 0 where

@@ -13,6 +13,7 @@ use Rattle.task_core.specs.Rows.{found, written}
 use Rattle.task_laws.specs.Table.{Slots, Scene, Outcome, leaves_slots, outcome_at}
 use Rattle.task_laws.specs.Holders.{owns_awaiter}
 use Rattle.task_steps.specs.Values.{Values}
+use Rattle.task_steps.specs.declared.stored.StoredAwaiter.{StoredAwaiter}
 use Rattle.task_steps.specs.declared.table.Slot.{Slot}
 use Rattle.task_steps.specs.declared.table.Deed.{Deed}
 use Rattle.task_steps.specs.declared.table.Member.{Member}
@@ -86,7 +87,7 @@ acted w slots acts v =
     view v.limit (member (next_of o) (noted w acts u.deeds) ∷ (tail_of v.members ++ map fresh (born_of o)))
 
 -- what a party finds in place 1, which it takes
-abbrev pub Awaits : {A : Type 0} → Position → Option A → Type 0
+abbrev pub Awaits : {A : Type 0} → Position → Option (StoredAwaiter A) → Type 0
 Awaits (Releaser hand way) y = Waits hand y
 Awaits (OldAwaiterInHand i old) y = Waits (Some old) y
 Awaits (Registered i) y = Waits None y
@@ -98,7 +99,7 @@ module _ {F T A : Type 0} where
   work_first y l = (0, First y) ∷ l
 
   -- place 1 in front, with this value, before others
-  abbrev pub awaiter_first : Option A → List (ℕ × TaskPlace F T A) → List (ℕ × TaskPlace F T A)
+  abbrev pub awaiter_first : Option (StoredAwaiter A) → List (ℕ × TaskPlace F T A) → List (ℕ × TaskPlace F T A)
   awaiter_first y l = (1, Second y) ∷ l
 
   -- place 0 is taken, with the future
@@ -120,8 +121,8 @@ module _ {F T A : Type 0} where
   abbrev pub Carries : Values F T → Bool → Bool → Bool → Bool → Position → List (ℕ × TaskPlace F T A) → List (ℕ × TaskPlace F T A) → Type 0
   Carries values false true b c q l l' = Works values q l l'
   Carries values true false b c q l l' = l' ≡ rest l
-  Carries values false false false true q l l' = (y : Option A) × Awaits q y × (l' ≡ awaiter_first y l)
-  Carries values true true false true q l l' = (y : Option A) × Awaits q y × (l' ≡ awaiter_first y l)
+  Carries values false false false true q l l' = (y : Option (StoredAwaiter A)) × Awaits q y × (l' ≡ awaiter_first y l)
+  Carries values true true false true q l l' = (y : Option (StoredAwaiter A)) × Awaits q y × (l' ≡ awaiter_first y l)
   Carries values false false true false q l l' = l' ≡ rest l
   Carries values true true true false q l l' = l' ≡ rest l
   Carries values _ _ _ _ q l l' = l' ≡ l

@@ -6,6 +6,7 @@
 #![tactic(auto)]
 
 pub mod attempt;
+pub mod clones;
 pub mod common;
 pub mod kept;
 pub mod places;
@@ -14,6 +15,7 @@ pub mod run;
 pub mod script;
 pub mod spawn;
 pub mod start;
+pub mod stored;
 pub mod table;
 pub mod task;
 pub mod waker;

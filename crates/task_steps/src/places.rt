@@ -5,6 +5,7 @@ ghost use Rattle.task_steps.specs.Held.{held};
 ghost use Rattle.task_steps.specs.Steps.{work_first, awaiter_first};
 
 use crate::kept::Kept;
+use crate::stored::{AwaiterClone, StoredAwaiter};
 use crate::table::{Block, LastBlock, Slot, TaskSeat};
 use std::alloc::Allocator;
 use task_core::{Wake, Yields};
@@ -31,20 +32,22 @@ impl<T: Drop> Held<T> {
     }
 }
 
-impl<A: Wake> Held<A> {
-    /// Wakes the awaiter, by value. The record of the wake says so, and is dropped.
+impl<A: Wake> Held<StoredAwaiter<AwaiterClone<A>>> {
+    /// Wakes the clone that was stored, by value. The record of the wake says so, and is dropped.
     pub fn wake(self)
-        ensures { (told : A.Record) × A.woken self.value told }
+        ensures { (told : A.Record) × A.woken self.value.awaiter.awaiter told }
     {
         let Held { value } = self;
-        value.wake();
+        let StoredAwaiter { awaiter, by: _ } = value;
+        let AwaiterClone { awaiter, lent: _ } = awaiter;
+        awaiter.wake();
     }
 
-    /// Whether a wake of this awaiter is known to wake the other one too.
+    /// Whether a wake of the clone that was stored is known to wake the other one too.
     pub fn will_wake(&self, other: &A) -> bool
-        ensures { A.compared self.now.value other.now result }
+        ensures { A.compared self.now.value.awaiter.awaiter other.now result }
     {
-        self.value.will_wake(other)
+        self.value.awaiter.awaiter.will_wake(other)
     }
 }
 
@@ -113,8 +116,8 @@ pub fn put_output<F: Yields, A, V, B: Allocator>(
 pub fn take_awaiter<F: Yields, A, V, B: Allocator>(
     block: &Block<F, A, V, B>,
     seat: &mut TaskSeat<F, Kept<F>, A>,
-) -> Option<Held<A>>
-    requires { (seat.old.block ≡ block.now.id) × ((old : Option A) × (seat.old.me.1 ≡ awaiter_first old (rest seat.old.me.1))) }
+) -> Option<Held<StoredAwaiter<A>>>
+    requires { (seat.old.block ≡ block.now.id) × ((old : Option (StoredAwaiter A)) × (seat.old.me.1 ≡ awaiter_first old (rest seat.old.me.1))) }
     ensures { (seat.new.block ≡ seat.old.block) × (seat.new.id ≡ seat.old.id) × (seat.old.me.1 ≡ awaiter_first (held result) (rest seat.old.me.1)) × (seat.new.me ≡ (seat.old.me.0, awaiter_first None (rest seat.old.me.1))) }
 {
     in_hands(block.swap_second(seat, None))
@@ -124,8 +127,8 @@ pub fn take_awaiter<F: Yields, A, V, B: Allocator>(
 pub fn take_last_awaiter<F: Yields, A, V, B: Allocator>(
     block: &LastBlock<F, A, V, B>,
     seat: &mut TaskSeat<F, Kept<F>, A>,
-) -> Option<Held<A>>
-    requires { (seat.old.block ≡ block.now.id) × ((old : Option A) × (seat.old.me.1 ≡ awaiter_first old (rest seat.old.me.1))) }
+) -> Option<Held<StoredAwaiter<A>>>
+    requires { (seat.old.block ≡ block.now.id) × ((old : Option (StoredAwaiter A)) × (seat.old.me.1 ≡ awaiter_first old (rest seat.old.me.1))) }
     ensures { (seat.new.block ≡ seat.old.block) × (seat.new.id ≡ seat.old.id) × (seat.old.me.1 ≡ awaiter_first (held result) (rest seat.old.me.1)) × (seat.new.me ≡ (seat.old.me.0, awaiter_first None (rest seat.old.me.1))) }
 {
     in_hands(block.swap_second(seat, None))
@@ -135,9 +138,9 @@ pub fn take_last_awaiter<F: Yields, A, V, B: Allocator>(
 pub fn put_awaiter<F: Yields, A, V, B: Allocator>(
     block: &Block<F, A, V, B>,
     seat: &mut TaskSeat<F, Kept<F>, A>,
-    awaiter: Held<A>,
-) -> Option<Held<A>>
-    requires { (seat.old.block ≡ block.now.id) × ((old : Option A) × (seat.old.me.1 ≡ awaiter_first old (rest seat.old.me.1))) }
+    awaiter: Held<StoredAwaiter<A>>,
+) -> Option<Held<StoredAwaiter<A>>>
+    requires { (seat.old.block ≡ block.now.id) × ((old : Option (StoredAwaiter A)) × (seat.old.me.1 ≡ awaiter_first old (rest seat.old.me.1))) }
     ensures { (seat.new.block ≡ seat.old.block) × (seat.new.id ≡ seat.old.id) × (seat.old.me.1 ≡ awaiter_first (held result) (rest seat.old.me.1)) × (seat.new.me ≡ (seat.old.me.0, awaiter_first (Some awaiter.value) (rest seat.old.me.1))) }
 {
     let Held { value } = awaiter;

@@ -19,7 +19,7 @@ use task_core::Yields;
 use task_core::word::{AWAITER, NOTIFYING, Word};
 use task_steps::common::{ReleasingAwaiter, TakingAwaiter};
 use task_steps::places::{Held, take_awaiter};
-use task_steps::table::Kept;
+use task_steps::table::{Kept, StoredAwaiter};
 
 // Whether a party is at the place of the awaiter.
 fn is_taken(found: Word) -> bool
@@ -40,10 +40,10 @@ impl<R: Drop, F: Yields, Q: Drop, M: Drop, A: Drop, B: Allocator + Copy> Share<R
     }
 
     /// Takes out what lies in the place of the awaiter, and gives the place back: a single fetch, never tried again. The awaiter, if there is one.
-    pub fn end_notify(&self, party: &mut Party<F, Kept<F>, A>) -> Option<Held<A>>
+    pub fn end_notify(&self, party: &mut Party<F, Kept<F>, A>) -> Option<Held<StoredAwaiter<A>>>
         requires cell { IsOf self.now party.old }
-        requires party { (hand : Option ℕ) × (way : NotifyingCall) × (y : Option A) × (held : List (ℕ × TaskPlace F _ A)) × StandsWith (Releaser hand way) (awaiter_first y held) party.old × Waits hand y }
-        ensures { (hand : Option ℕ) (way : NotifyingCall) (y : Option A) (held : List (ℕ × TaskPlace F _ A)) → StandsWith (Releaser hand way) (awaiter_first y held) party.old → Waits hand y → EndsNotify hand way held party.old party.new result }
+        requires party { (hand : Option ℕ) × (way : NotifyingCall) × (y : Option _) × (held : List (ℕ × TaskPlace F _ A)) × StandsWith (Releaser hand way) (awaiter_first y held) party.old × Waits hand y }
+        ensures { (hand : Option ℕ) (way : NotifyingCall) (y : Option _) (held : List (ℕ × TaskPlace F _ A)) → StandsWith (Releaser hand way) (awaiter_first y held) party.old → Waits hand y → EndsNotify hand way held party.old party.new result }
     {
         let awaiter = take_awaiter(&self.block, &mut party.seat);
         self.fetch_and::<ReleasingAwaiter>(party, !(NOTIFYING | AWAITER));
@@ -51,7 +51,7 @@ impl<R: Drop, F: Yields, Q: Drop, M: Drop, A: Drop, B: Allocator + Copy> Share<R
     }
 
     // Takes the stored awaiter, unless another party is at it.
-    pub(crate) fn notify(&self, party: &mut Party<F, Kept<F>, A>) -> Option<Held<A>>
+    pub(crate) fn notify(&self, party: &mut Party<F, Kept<F>, A>) -> Option<Held<StoredAwaiter<A>>>
         requires cell { IsOf self.now party.old }
         requires party { (way : NotifyingCall) × (held : List (ℕ × TaskPlace F _ A)) × StandsWith (Notifier way) held party.old }
         ensures { Notifies party.old party.new (held result) }
@@ -64,7 +64,11 @@ impl<R: Drop, F: Yields, Q: Drop, M: Drop, A: Drop, B: Allocator + Copy> Share<R
     }
 
     // Takes the stored awaiter where AWAITER was found.
-    pub(crate) fn take_due(&self, party: &mut Party<F, Kept<F>, A>, due: bool) -> Option<Held<A>>
+    pub(crate) fn take_due(
+        &self,
+        party: &mut Party<F, Kept<F>, A>,
+        due: bool,
+    ) -> Option<Held<StoredAwaiter<A>>>
         requires cell { IsOf self.now party.old }
         requires party { (way : NotifyingCall) × Stands (notifies due way) party.old }
         ensures { (way : NotifyingCall) → Stands (notifies due way) party.old → TakesDue way due party.old party.new (held result) }

@@ -23,7 +23,7 @@ use task_core::word::Word;
 use task_core::{Wake, Yields};
 use task_steps::places::{Held, take_work};
 use task_steps::poll::HandingOut;
-use task_steps::table::Kept;
+use task_steps::table::{AwaiterClone, Kept};
 
 impl<R: Drop, F: Yields, Q: Drop, M: Drop, A: Drop, B: Allocator + Copy> Share<R, F, Q, M, A, B> {
     /// Hands the output out, and ends the poll. One load.
@@ -44,17 +44,17 @@ impl<R: Wait + Drop + Copy, F: Yields, Q: Drop, M: Drop, A: Wake, B: Allocator +
     F,
     Q,
     M,
-    A,
+    AwaiterClone<A>,
     B,
 > {
     // Takes the stored awaiter, and wakes it, unless its wake wakes the caller.
     pub(crate) fn take_awaiter(
         &self,
-        party: &mut Party<F, Kept<F>, A>,
+        party: &mut Party<F, Kept<F>, AwaiterClone<A>>,
         awaiter: &LentAwaiter<'_, A>,
     )
         requires cell { IsOf self.now party.old }
-        requires party { (way : NotifyingCall) × (held : List (ℕ × TaskPlace F _ A)) × StandsWith (Notifier way) held party.old × (may_drop way ≡ true) }
+        requires party { (way : NotifyingCall) × (held : List (ℕ × TaskPlace F _ _)) × StandsWith (Notifier way) held party.old × (may_drop way ≡ true) }
         ensures { (path : List Deed) × TakePath A.woken A.compared awaiter.now.awaiter.now path × DidWith path (after_waking (way_of (position party.old))) (places_of party.old) party.old party.new }
     {
         if let Some(taken) = self.notify(party) {
@@ -71,12 +71,12 @@ impl<R: Wait + Drop + Copy, F: Yields, Q: Drop, M: Drop, A: Wake, B: Allocator +
     // Takes the stored awaiter where the word that was found says that there is one.
     fn take_awaiter_of(
         &self,
-        party: &mut Party<F, Kept<F>, A>,
+        party: &mut Party<F, Kept<F>, AwaiterClone<A>>,
         awaiter: &LentAwaiter<'_, A>,
         found: Word,
     )
         requires cell { IsOf self.now party.old }
-        requires party { (i : ℕ) × (held : List (ℕ × TaskPlace F _ A)) × StandsWith (notifies found.awaiter (OfClaim i)) held party.old }
+        requires party { (i : ℕ) × (held : List (ℕ × TaskPlace F _ _)) × StandsWith (notifies found.awaiter (OfClaim i)) held party.old }
         ensures { (path : List Deed) × TakePathIf A.woken A.compared awaiter.now.awaiter.now found.awaiter path × DidWith path (TookOutput (poll_number (position party.old))) (places_of party.old) party.old party.new }
     {
         if found.awaiter() {
@@ -87,7 +87,7 @@ impl<R: Wait + Drop + Copy, F: Yields, Q: Drop, M: Drop, A: Wake, B: Allocator +
     // Takes the stored awaiter where there is one, and hands out the output that a look has taken on this word.
     pub(crate) fn take_output(
         &self,
-        party: &mut Party<F, Kept<F>, A>,
+        party: &mut Party<F, Kept<F>, AwaiterClone<A>>,
         awaiter: &LentAwaiter<'_, A>,
         found: Word,
     ) -> Held<Kept<F>>

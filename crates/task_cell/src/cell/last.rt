@@ -25,7 +25,7 @@ use task_core::word::{CLOSED, REFERENCE, SCHEDULED};
 use task_steps::Knowing;
 use task_steps::places::take_last_awaiter;
 use task_steps::run::Emptying;
-use task_steps::table::{Kept, Slot};
+use task_steps::table::{Kept, Slot, StoredAwaiter};
 use task_steps::waker::ClosingOrphan;
 
 /// The word of a task that nobody has: scheduled, closed, and with the reference of its last Runnable.
@@ -51,8 +51,8 @@ impl<R: Drop, F: Yields, Q: Drop, M: Drop, A: Drop, B: Allocator + Copy> LastSha
     // Drops the awaiter in its place, which the party has in front, if one is there, and leaves none.
     fn clear_awaiter(&self, party: &mut Party<F, Kept<F>, A>)
         requires cell { IsOfLast self.now party.old }
-        requires party { (at : Position) × (y : Option A) × (held : List (ℕ × TaskPlace F _ A)) × StandsWith at (awaiter_first y held) party.old }
-        ensures { (at : Position) (y : Option A) (held : List (ℕ × TaskPlace F _ A)) → StandsWith at (awaiter_first y held) party.old → DidWith [] at (awaiter_first None held) party.old party.new }
+        requires party { (at : Position) × (y : Option _) × (held : List (ℕ × TaskPlace F _ A)) × StandsWith at (awaiter_first y held) party.old }
+        ensures { (at : Position) (y : Option _) (held : List (ℕ × TaskPlace F _ A)) → StandsWith at (awaiter_first y held) party.old → DidWith [] at (awaiter_first None held) party.old party.new }
     {
         if let Some(awaiter) = take_last_awaiter(&self.block, &mut party.seat) {
             awaiter.discard();
@@ -71,8 +71,8 @@ impl<R: Drop, F: Yields, Q: Drop, M: Drop, A: Drop, B: Allocator + Copy> LastSha
     /// Empties the place of the awaiter, as the last party, and gives it back by a load. Then its share ends, and the cell with it, unless a schedule call holds it: whether it has. The party goes on in its call: to the awaiter in hand, or to the end.
     pub fn empty(self, party: &mut Party<F, Kept<F>, A>) -> (Ledger<R, F, Q, M, A, B>, bool)
         requires cell { IsOfLast self party.old }
-        requires party { (hand : Option ℕ) × (answer : Answer) × (y : Option A) × StandsWith (Emptier hand answer) (awaiter_first y []) party.old }
-        ensures path { (hand : Option ℕ) (answer : Answer) (y : Option A) → StandsWith (Emptier hand answer) (awaiter_first y []) party.old → Did (act EmptySlots ∷ []) (after_giving_up hand answer) party.old party.new }
+        requires party { (hand : Option ℕ) × (answer : Answer) × (y : Option _) × StandsWith (Emptier hand answer) (awaiter_first y []) party.old }
+        ensures path { (hand : Option ℕ) (answer : Answer) (y : Option _) → StandsWith (Emptier hand answer) (awaiter_first y []) party.old → Did (act EmptySlots ∷ []) (after_giving_up hand answer) party.old party.new }
         ensures ledger { IsBeside result.0 party.new }
     {
         self.clear_awaiter(party);
@@ -87,7 +87,7 @@ impl<R: Drop, F: Yields, Q: Drop, M: Drop, A: Drop, B: Allocator + Copy> LastSha
     // The last handle empties the places, and its call ends.
     pub(crate) fn empty_at_end(self, party: &mut Party<F, Kept<F>, A>)
         requires cell { IsOfLast self party.old }
-        requires party { (y : Option A) × StandsWith (Emptier None Nothing) (awaiter_first y []) party.old }
+        requires party { (y : Option _) × StandsWith (Emptier None Nothing) (awaiter_first y []) party.old }
         ensures { Did (act EmptySlots ∷ act EndCall ∷ []) as_ended party.old party.new }
     {
         let (ledger, _) = self.empty(party);
@@ -98,7 +98,7 @@ impl<R: Drop, F: Yields, Q: Drop, M: Drop, A: Drop, B: Allocator + Copy> LastSha
     fn end_block(
         self,
         party: &mut Party<F, Kept<F>, A>,
-    ) -> Option<Inner<Slot<F, Kept<F>>, Option<A>, Cell<R, Q, M, B>>>
+    ) -> Option<Inner<Slot<F, Kept<F>>, Option<StoredAwaiter<A>>, Cell<R, Q, M, B>>>
         requires cell { IsOfLast self party.old }
         requires party { (at : Position) × StandsWith at [] party.old }
         requires last { has_emptied (deeds party.old) ≡ true }

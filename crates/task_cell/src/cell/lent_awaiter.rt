@@ -1,11 +1,14 @@
 //! The awaiter that a poll's caller lends to it, as the parts of the poll have it. They compare and clone it; one of them may wake it, once.
 ghost use Rattle.std.specs.Prelude.{◌≡◌, ℕ, Bool, Ok, Err, IfOk, IfErr};
-ghost use Rattle.task_laws.specs.declared.positions.Position.TheVariants.{UnusedClone};
-ghost use Rattle.task_cell.specs.Calls.{Stands};
+ghost use Rattle.task_laws.specs.declared.positions.Position.TheVariants.{Registrar, UnusedClone};
+ghost use Rattle.task_cell.specs.Calls.{Stands, position};
+ghost use Rattle.task_steps.specs.Standing.{poll_number};
+ghost use Rattle.task_steps.specs.Stored.{stored_by};
 
 use super::Party;
 use task_core::Wake;
 use task_steps::places::Held;
+use task_steps::table::{AwaiterClone, StoredAwaiter};
 
 /// A lent awaiter. It shows no reference to the awaiter, so that a poll wakes it by `wake` alone.
 #[derive(Drop)]
@@ -33,26 +36,32 @@ impl<'a, A: Wake> LentAwaiter<'a, A> {
         (LentAwaiter { awaiter }, OneWake { lent: () })
     }
 
-    // A clone, for the place of the awaiter.
-    pub(crate) fn try_clone(&self) -> Result<Held<A>, A::Record>
-        ensures cloned { IfOk result (λ clone. A.cloned self.now.awaiter.now (Ok clone.value)) }
+    // A clone, for the place of the awaiter, by the party of the poll.
+    pub(crate) fn try_clone<F, T>(
+        &self,
+        party: &Party<F, T, AwaiterClone<A>>,
+    ) -> Result<Held<StoredAwaiter<AwaiterClone<A>>>, A::Record>
+        requires party { (i : ℕ) × Stands (Registrar i) party.now }
+        ensures cloned { IfOk result (λ clone. A.cloned self.now.awaiter.now (Ok clone.value.awaiter.awaiter)) }
+        ensures lent { IfOk result (λ clone. clone.value.awaiter.lent.value ≡ self.now.awaiter.now) }
+        ensures number { IfOk result (λ clone. stored_by clone.value ≡ poll_number (position party.now)) }
         ensures refused { IfErr result (λ told. A.cloned self.now.awaiter.now (Err told)) }
     {
-        match self.awaiter.try_clone() {
-            Ok(clone) => Ok(Held::new(clone)),
+        match AwaiterClone::of(self.awaiter) {
+            Ok(clone) => Ok(party.to_store(clone)),
             Err(told) => Err(told),
         }
     }
 
     // Whether a wake of the awaiter that was taken wakes the caller.
-    pub(crate) fn is_woken_by(&self, taken: &Held<A>) -> bool
-        ensures { A.compared taken.now.value self.now.awaiter.now result }
+    pub(crate) fn is_woken_by(&self, taken: &Held<StoredAwaiter<AwaiterClone<A>>>) -> bool
+        ensures { A.compared taken.now.value.awaiter.awaiter self.now.awaiter.now result }
     {
         taken.will_wake(self.awaiter)
     }
 
     // Wakes the caller, where a notifier has made the clone useless. The record of the wake says so, and is dropped.
-    pub(crate) fn wake<F, T>(&self, once: OneWake, party: &Party<F, T, A>)
+    pub(crate) fn wake<F, T>(&self, once: OneWake, party: &Party<F, T, AwaiterClone<A>>)
         requires party { (i : ℕ) × Stands (UnusedClone i) party.now }
         ensures { (told : A.Record) × A.woken_by_ref self.now.awaiter.now told }
     {

@@ -6,8 +6,9 @@ ghost use Rattle.task_core.specs.declared.acts.Act.TheVariants.{EndRegisterNotif
 ghost use Rattle.task_laws.specs.Table.{after_storing};
 ghost use Rattle.task_steps.specs.declared.table.Deed.{Deed};
 ghost use Rattle.task_steps.specs.Rule.{Waits};
+ghost use Rattle.task_steps.specs.Stored.{poll_of, stored_by};
 ghost use Rattle.task_cell.specs.PollPaths.{RegisterPath, Registers, BeginsRegister, EndsRegister, dropped_if};
-ghost use Rattle.task_cell.specs.Stores.{PutsClone};
+ghost use Rattle.task_cell.specs.Stores.{PutsClone, StoresClone, gives_back};
 ghost use Rattle.task_steps.specs.Standing.{poll_number, as_task};
 ghost use Rattle.task_cell.specs.Calls.{Stands, StandsWith, Did, DidWith, position, places_of};
 ghost use Rattle.task_steps.specs.Attempts.{HasMissed};
@@ -24,7 +25,17 @@ use task_core::{Wake, Yields};
 use task_steps::common::{Dropping, Waking};
 use task_steps::places::{Held, put_awaiter, take_awaiter};
 use task_steps::poll::{BeginningRegister, EndingNotified, EndingRegister, Refusing};
-use task_steps::table::Kept;
+use task_steps::table::{AwaiterClone, Kept, StoredAwaiter};
+
+impl<F, T, A> Party<F, T, A> {
+    /// What the poll of this party is to store.
+    pub fn to_store(&self, awaiter: A) -> Held<StoredAwaiter<A>>
+        ensures awaiter { result.value.awaiter ≡ awaiter }
+        ensures number { stored_by result.value ≡ poll_of self.now.seat.me.0 }
+    {
+        Held::new(StoredAwaiter::new(awaiter, &self.seat))
+    }
+}
 
 impl<R: Drop, F: Yields, Q: Drop, M: Drop, A: Drop, B: Allocator + Copy> Share<R, F, Q, M, A, B> {
     /// Writes down that the clone was refused, and that the poll ends so. It is no step.
@@ -55,10 +66,14 @@ impl<R: Drop, F: Yields, Q: Drop, M: Drop, A: Drop, B: Allocator + Copy> Share<R
     }
 
     /// Puts the clone into the awaiter slot: the older awaiter that stood there, if one did.
-    pub fn put_clone(&self, party: &mut Party<F, Kept<F>, A>, clone: Held<A>) -> Option<Held<A>>
+    pub fn put_clone(
+        &self,
+        party: &mut Party<F, Kept<F>, A>,
+        clone: Held<StoredAwaiter<A>>,
+    ) -> Option<Held<StoredAwaiter<A>>>
         requires cell { IsOf self.now party.old }
-        requires party { (i : ℕ) × (hand : Option ℕ) × (y : Option A) × StandsWith (after_storing i hand) (awaiter_first y []) party.old × Waits hand y }
-        ensures { (i : ℕ) (hand : Option ℕ) (y : Option A) → StandsWith (after_storing i hand) (awaiter_first y []) party.old → Waits hand y → PutsClone i hand clone.value party.old party.new result }
+        requires party { (i : ℕ) × (hand : Option ℕ) × (y : Option _) × StandsWith (after_storing i hand) (awaiter_first y []) party.old × Waits hand y }
+        ensures { (i : ℕ) (hand : Option ℕ) (y : Option _) → StandsWith (after_storing i hand) (awaiter_first y []) party.old → Waits hand y → PutsClone i hand clone.value party.old party.new result }
     {
         put_awaiter(&self.block, &mut party.seat, clone)
     }
@@ -66,16 +81,16 @@ impl<R: Drop, F: Yields, Q: Drop, M: Drop, A: Drop, B: Allocator + Copy> Share<R
     /// Writes down that the older awaiter is dropped. It is no step.
     pub fn note_old_dropped(&self, party: &mut Party<F, Kept<F>, A>)
         requires cell { IsOf self.now party.old }
-        requires party { (i : ℕ) × (old : ℕ) × (clone : A) × StandsWith (OldAwaiterInHand i old) (awaiter_first (Some clone) []) party.old }
+        requires party { (i : ℕ) × (old : ℕ) × (clone : _) × StandsWith (OldAwaiterInHand i old) (awaiter_first (Some clone) []) party.old }
         ensures { DidWith (act DropAwaiter ∷ []) (Registered (poll_number (position party.old))) (places_of party.old) party.old party.new }
     {
         self.ledger().note::<Dropping>(party);
     }
 
     // Puts the clone into the awaiter slot, and drops what stood there.
-    fn store(&self, party: &mut Party<F, Kept<F>, A>, clone: Held<A>)
+    fn store(&self, party: &mut Party<F, Kept<F>, A>, clone: Held<StoredAwaiter<A>>)
         requires cell { IsOf self.now party.old }
-        requires party { (i : ℕ) × (hand : Option ℕ) × (y : Option A) × StandsWith (after_storing i hand) (awaiter_first y []) party.old × Waits hand y }
+        requires party { (i : ℕ) × (hand : Option ℕ) × (y : Option _) × StandsWith (after_storing i hand) (awaiter_first y []) party.old × Waits hand y }
         ensures { (stood : Bool) × DidWith (dropped_if stood) (Registered (poll_number (position party.old))) (awaiter_first (Some clone.value) []) party.old party.new }
     {
         if let Some(old) = self.put_clone(party, clone) {
@@ -85,9 +100,9 @@ impl<R: Drop, F: Yields, Q: Drop, M: Drop, A: Drop, B: Allocator + Copy> Share<R
     }
 
     /// Takes the clone out again, since a notifier came, and gives the awaiter slot back: a single fetch, never tried again. A notifier stays while the slot is the Task's.
-    pub fn take_back(&self, party: &mut Party<F, Kept<F>, A>) -> Held<A>
+    pub fn take_back(&self, party: &mut Party<F, Kept<F>, A>) -> Held<StoredAwaiter<A>>
         requires cell { IsOf self.now party.old }
-        requires party { (i : ℕ) × (clone : A) × StandsWith (TookBack i) (awaiter_first (Some clone) []) party.old }
+        requires party { (i : ℕ) × (clone : _) × StandsWith (TookBack i) (awaiter_first (Some clone) []) party.old }
         ensures same { places_of party.old ≡ awaiter_first (Some result.value) [] }
         ensures path { (v : State) × (v.notifying ≡ true) × Did (row EndRegisterNotified v ∷ []) (CloneInHand (poll_number (position party.old))) party.old party.new }
     {
@@ -113,7 +128,7 @@ impl<R: Drop, F: Yields, Q: Drop, M: Drop, A: Drop, B: Allocator + Copy> Share<R
     /// Gives the awaiter slot back with the clone in it, by at most 2^64 - 1 tries, and answers whether it did: where there is a notifier, the clone is to be taken out again. `None` where each try has missed.
     pub fn end_register_some(&self, party: &mut Party<F, Kept<F>, A>) -> Option<bool>
         requires cell { IsOf self.now party.old }
-        requires party { (i : ℕ) × (clone : A) × StandsWith (Registered i) (awaiter_first (Some clone) []) party.old }
+        requires party { (i : ℕ) × (clone : _) × StandsWith (Registered i) (awaiter_first (Some clone) []) party.old × (stored_by clone ≡ i) }
         ensures path { IfSome result (λ ended. EndsRegister party.old party.new ended) }
         ensures missed { IfNone result (HasMissed (2 ^ 64 - 1) party.new.seat.me) }
     {
@@ -129,11 +144,11 @@ impl<R: Wait + Drop + Copy, F: Yields, Q: Drop, M: Drop, A: Wake, B: Allocator +
     F,
     Q,
     M,
-    A,
+    AwaiterClone<A>,
     B,
 > {
     // Takes the awaiter slot, and answers whether it did: it does not where there is a notifier.
-    fn begin_register(&self, party: &mut Party<F, Kept<F>, A>) -> bool
+    fn begin_register(&self, party: &mut Party<F, Kept<F>, AwaiterClone<A>>) -> bool
         requires cell { IsOf self.now party.old }
         requires party { (i : ℕ) × Stands (Registrar i) party.old }
         ensures { BeginsRegister party.old party.new result }
@@ -145,9 +160,9 @@ impl<R: Wait + Drop + Copy, F: Yields, Q: Drop, M: Drop, A: Wake, B: Allocator +
     }
 
     // Gives the awaiter slot back with the clone in it, and answers whether it did: where there is a notifier, the clone is to be taken out again.
-    fn end_register(&self, party: &mut Party<F, Kept<F>, A>) -> bool
+    fn end_register(&self, party: &mut Party<F, Kept<F>, AwaiterClone<A>>) -> bool
         requires cell { IsOf self.now party.old }
-        requires party { (i : ℕ) × (clone : A) × StandsWith (Registered i) (awaiter_first (Some clone) []) party.old }
+        requires party { (i : ℕ) × (clone : _) × StandsWith (Registered i) (awaiter_first (Some clone) []) party.old × (stored_by clone ≡ i) }
         ensures { EndsRegister party.old party.new result }
     {
         match self.change::<EndingRegister>(party) {
@@ -159,15 +174,17 @@ impl<R: Wait + Drop + Copy, F: Yields, Q: Drop, M: Drop, A: Wake, B: Allocator +
     // Registers a clone of the caller's awaiter, or wakes one where a notifier came before or meanwhile.
     fn register_clone(
         &self,
-        party: &mut Party<F, Kept<F>, A>,
+        party: &mut Party<F, Kept<F>, AwaiterClone<A>>,
         awaiter: &LentAwaiter<'_, A>,
         once: OneWake,
-        clone: Held<A>,
+        clone: Held<StoredAwaiter<AwaiterClone<A>>>,
     )
         requires cell { IsOf self.now party.old }
         requires party { (i : ℕ) × Stands (Registrar i) party.old }
-        requires cloned { A.cloned awaiter.now.awaiter.now (Ok clone.value) }
-        ensures { (path : List Deed) × RegisterPath A.cloned A.woken A.woken_by_ref awaiter.now.awaiter.now path × Did path (Looking (poll_number (position party.old))) party.old party.new }
+        requires cloned { A.cloned awaiter.now.awaiter.now (Ok clone.value.awaiter.awaiter) }
+        requires lent { clone.value.awaiter.lent.value ≡ awaiter.now.awaiter.now }
+        requires number { stored_by clone.value ≡ poll_number (position party.old) }
+        ensures { (path : List Deed) × RegisterPath A.cloned A.woken A.woken_by_ref awaiter.now.awaiter.now path × Did path (Looking (poll_number (position party.old))) party.old party.new × (gives_back path ≡ true → StoresClone A.Wake awaiter.now.awaiter.now party.old party.new) }
     {
         if !self.begin_register(party) {
             awaiter.wake(once, party);
@@ -186,15 +203,15 @@ impl<R: Wait + Drop + Copy, F: Yields, Q: Drop, M: Drop, A: Wake, B: Allocator +
     // Registers the caller's awaiter, and answers whether it did: a clone that is refused ends the poll.
     pub(crate) fn register(
         &self,
-        party: &mut Party<F, Kept<F>, A>,
+        party: &mut Party<F, Kept<F>, AwaiterClone<A>>,
         awaiter: &LentAwaiter<'_, A>,
         once: OneWake,
     ) -> bool
         requires cell { IsOf self.now party.old }
         requires party { (i : ℕ) × Stands (Registrar i) party.old }
-        ensures { Registers A.cloned A.woken A.woken_by_ref awaiter.now.awaiter.now party.old party.new result }
+        ensures { Registers A.cloned A.woken A.woken_by_ref awaiter.now.awaiter.now (StoresClone A.Wake awaiter.now.awaiter.now party.old party.new) party.old party.new result }
     {
-        match awaiter.try_clone() {
+        match awaiter.try_clone(party) {
             Ok(clone) => {
                 self.register_clone(party, awaiter, once, clone);
                 true

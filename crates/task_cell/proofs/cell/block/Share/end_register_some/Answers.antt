@@ -7,10 +7,10 @@ use Rattle.task_cell.proofs.Attempts.{clear_or_set}
 use Rattle.task_cell.proofs.cell.block.Share.end_register_some.Goals as goal
 
 pub alter_some-requires-clause-allowed : goal.alter_some-requires-clause-allowed
-alter_some-requires-clause-allowed g c = let s = c.requires.party in (may_give_back _ _ _ _ _ c.args.party.now s.0 s.1 s.2).0
+alter_some-requires-clause-allowed g c = let s = c.requires.party in (may_give_back _ _ _ _ _ c.args.party.now s.0 s.1 s.3 s.2).0
 
 pub alter_some-requires-clause-shares : goal.alter_some-requires-clause-shares
-alter_some-requires-clause-shares g c = let s = c.requires.party in (may_give_back _ _ _ _ _ c.args.party.now s.0 s.1 s.2).1
+alter_some-requires-clause-shares g c = let s = c.requires.party in (may_give_back _ _ _ _ _ c.args.party.now s.0 s.1 s.3 s.2).1
 
 pub returns-in-Ok-clause-path : goal.returns-in-Ok-clause-path
 returns-in-Ok-clause-path g c = let s = c.requires.party in let e = c.in_ok-alter_some.ensures in let p = c.args.party.now in let q = c.alter_some.new.party in
