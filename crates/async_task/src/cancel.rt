@@ -1,5 +1,6 @@
 //! The Task as a handle that cancels the task, and waits until its future is gone.
 ghost use Rattle.std.specs.Prelude.{◌≡◌, List, true, false, None};
+ghost use Rattle.task_cell.specs.Stores.{Registration};
 ghost use Rattle.task_cell.specs.Woken.{WokeClone};
 ghost use Rattle.task_cell.specs.Belongs.{cell_of, HasYielded};
 ghost use Rattle.task_steps.specs.declared.table.Deed.{Deed};
@@ -94,6 +95,7 @@ where
         ensures yielded { IfSomeOutput result (λ output. HasYielded self.old.task.inner.share output) }
         ensures ended { saw_ended (deeds self.old.task.inner.party) ≡ true → result ≡ TaskPoll.Ready None }
         ensures closed { result ≡ TaskPoll.Ready None → saw_ended (deeds self.new.task.inner.party) ≡ true }
+        ensures registered { result ≡ TaskPoll.Pending → Registration A.Wake awaiter.now self.old.task.inner.party self.new.task.inner.party }
         ensures cell { self.new.task.inner.share ≡ self.old.task.inner.share }
         ensures around { self.new.task.around ≡ self.old.task.around }
         ensures cancelled { self.new.cancelled ≡ true }

@@ -4,6 +4,7 @@ ghost use Rattle.task_steps.specs.declared.table.Deed.{Deed};
 ghost use Rattle.task_steps.specs.Standing.{as_ended};
 ghost use Rattle.task_steps.specs.Steps.{saw_over, saw_ended};
 ghost use Rattle.async_task.specs.HandlePaths.{EndsTask, FindsFinished, PollsOnce, IfSomeOutput};
+ghost use Rattle.task_cell.specs.Stores.{Registration};
 ghost use Rattle.task_cell.specs.Woken.{WokeClone};
 ghost use Rattle.task_cell.specs.Belongs.{cell_of, HasYielded};
 ghost use Rattle.task_cell.specs.Calls.{Did, deeds};
@@ -123,6 +124,7 @@ where
         ensures yielded { IfSomeOutput result (λ output. HasYielded self.old.task.inner.share output) }
         ensures ended { saw_ended (deeds self.old.task.inner.party) ≡ true → result ≡ TaskPoll.Ready None }
         ensures closed { result ≡ TaskPoll.Ready None → saw_ended (deeds self.new.task.inner.party) ≡ true }
+        ensures registered { result ≡ TaskPoll.Pending → Registration A.Wake awaiter.now self.old.task.inner.party self.new.task.inner.party }
         ensures cell { self.new.task.inner.share ≡ self.old.task.inner.share }
         ensures around { self.new.task.around ≡ self.old.task.around }
     {

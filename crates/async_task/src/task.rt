@@ -9,6 +9,7 @@ ghost use Rattle.task_cell.specs.Handed.{HandedOver};
 ghost use Rattle.task_cell.specs.PollPaths.{IfOutput};
 ghost use Rattle.async_task.specs.HandlePaths.{EndsTask, FindsFinished, PollsOnce, IfSomeOutput, fallible_answer, is_closed};
 ghost use Rattle.task_cell.specs.Witnessed.{Witnesses};
+ghost use Rattle.task_cell.specs.Stores.{Registration};
 ghost use Rattle.task_cell.specs.Woken.{WokeClone};
 ghost use Rattle.task_cell.specs.Calls.{Did, deeds, position, places_of, limit_of, is_empty};
 ghost use Rattle.task_steps.specs.Standing.{as_ended, is_task};
@@ -79,6 +80,7 @@ impl<R: Wait + Drop + Copy, F: Yields, Q: Drop, M: Drop, A: Wake, B: Allocator +
         ensures yielded { IfSomeOutput result (λ output. HasYielded self.old.share output) }
         ensures ended { saw_ended (deeds self.old.party) ≡ true → result ≡ TaskPoll.Ready None }
         ensures closed { result ≡ TaskPoll.Ready None → saw_ended (deeds self.new.party) ≡ true }
+        ensures registered { result ≡ TaskPoll.Pending → Registration A.Wake awaiter.now self.old.party self.new.party }
         ensures share { self.new.share ≡ self.old.share }
     {
         match self.share.poll(&mut self.party, awaiter) {
@@ -246,6 +248,7 @@ where
     /// Answers with the output once there is one, or with `TaskClosed`. Otherwise a clone of `awaiter` is registered, to be woken then.
     ///
     /// The output is one that the future which was spawned has answered, after polls that answered Pending, by what its type states of each (`moves`); and it meets `meets`. `TaskClosed` says that no output will come, and each later poll answers the same.
+    /// `Pending` says that a clone of `awaiter` is stored under the number of this poll, unless it, or a clone of it, was woken already.
     /// `Refused` says that the clone was refused: nothing was registered, and an awaiter that an earlier poll registered is still woken.
     pub fn poll(&mut self, awaiter: &A) -> TaskPoll<Result<F::Output, TaskClosed>>
         ensures path { PollsOnce A.cloned A.woken A.woken_by_ref A.compared awaiter.now self.old.inner.party self.new.inner.party (fallible_answer result) }
@@ -253,6 +256,7 @@ where
         ensures yielded { IfOutput result (λ output. HasYielded self.old.inner.share output) }
         ensures ended { saw_ended (deeds self.old.inner.party) ≡ true → is_closed result ≡ true }
         ensures closed { is_closed result ≡ true → saw_ended (deeds self.new.inner.party) ≡ true }
+        ensures registered { result ≡ TaskPoll.Pending → Registration A.Wake awaiter.now self.old.inner.party self.new.inner.party }
         ensures cell { self.new.inner.share ≡ self.old.inner.share }
         ensures around { self.new.around ≡ self.old.around }
     {

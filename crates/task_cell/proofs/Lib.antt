@@ -17,6 +17,7 @@ pub mod PollMoved
 pub mod PollWays
 pub mod PollRegisters
 pub mod PollAnswers
+pub mod Registrations
 pub mod WakerMoves
 pub mod WakerCalls
 pub mod PollSeen

@@ -76,12 +76,16 @@ module _ {F T A : Type 0} where
     Came p q true = (path : List Deed) × RegisterPath cloned woken woken_by_ref awaiter path × Did path (Looking (poll_number (position p))) p q
     Came p q false = (told : K) × cloned awaiter (Err told) × Did (act RefuseClone ∷ act EndCall ∷ []) (ends (position p)) p q
 
-    came_by : {Stored : Type 0} (p q : Party F T A) (b : Bool) → Registers cloned woken woken_by_ref awaiter Stored p q b → Came p q b
+    came_by : {Comes : Type 0} (p q : Party F T A) (b : Bool) → Registers cloned woken woken_by_ref awaiter Comes p q b → Came p q b
     came_by p q true (is_registered path r g kept) = (path, r, g)
     came_by p q false (clone_refused told c g) = (told, c, g)
 
-    pub came : {Stored : Type 0} (p q : Party F T A) (b c : Bool) → Registers cloned woken woken_by_ref awaiter Stored p q b → b ≡ c → Came p q c
-    came {Stored} p q b c r e = came_by p q c (subst (λ b. Registers cloned woken woken_by_ref awaiter Stored p q b) e r)
+    pub came : {Comes : Type 0} (p q : Party F T A) (b c : Bool) → Registers cloned woken woken_by_ref awaiter Comes p q b → b ≡ c → Came p q c
+    came {Comes} p q b c r e = came_by p q c (subst (λ b. Registers cloned woken woken_by_ref awaiter Comes p q b) e r)
+
+    pub comes : {Comes : Type 0} (p q : Party F T A) (b : Bool) → Registers cloned woken woken_by_ref awaiter Comes p q b → b ≡ true → Comes
+    comes p q true (is_registered path r g kept) e = kept
+    comes p q false (clone_refused told c g) e = never e
 
     pub polled_refused : (w : State) (n : ℕ) (p q r : Party F T A) → has_output w ≡ false → has_ended w ≡ false → Did (row Look w ∷ []) (Registrar n) p q → Came q r false → Polled n Refused p r
     polled_refused w n p q r e f g h = (row Look w ∷ act RefuseClone ∷ act EndCall ∷ [], paths.is_refused w h.0 e f h.1, then_goes p q r (row Look w ∷ []) (act RefuseClone ∷ act EndCall ∷ []) (Registrar n) [] [] ends g h.2)

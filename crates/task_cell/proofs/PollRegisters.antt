@@ -7,7 +7,7 @@ use Rattle.task_cell.proofs.Vocabulary.{Result, Ok, poll_number, same_first, Tas
 use Rattle.task_cell.specs.PollPaths as paths
 use Rattle.task_cell.proofs.Moved.{held_is, position_is, stands}
 use Rattle.task_cell.proofs.Vocabulary.{never}
-use Rattle.task_cell.specs.Stores.{GivesBack, gives_back}
+use Rattle.task_cell.specs.Stores.{GivesBack}
 use Rattle.task_steps.specs.Stored.{stored_by}
 use Rattle.task_cell.proofs.PollWays.{then_goes}
 
@@ -77,9 +77,11 @@ module _ {F T A : Type 0} where
   pub gave_back : (p r t : Party F T A) (clone : StoredAwaiter A) (v : State) → stored_by clone ≡ poll_number (position p) → HasStored clone p r → Did (row EndRegister v ∷ []) (Looking (poll_number (position r))) r t
       → GivesBack (poll_number (position p)) clone p t
   gave_back p r t clone v by x g = let n : ℕ = poll_number (position p) in let path : List Deed = stored x.0 ++ dropped_if x.1 in let held : List (ℕ × TaskPlace F T A) = awaiter_first (Some clone) [] in record {
-    deeds = path;
+    before = path;
     between = r;
     word = v;
+    after = [];
+    at = Looking n;
     number = by;
     has = x.3;
     gives = subst (λ at. Did (row EndRegister v ∷ []) (Looking (poll_number at)) r t) (position_is r (Registered n) held (stands p r path (Registered n) held x.3)) g;
@@ -87,35 +89,31 @@ module _ {F T A : Type 0} where
 
   module _ {B K : Type 0} (cloned : B → Result B K → Type 0) (woken woken_by_ref : B → K → Type 0) (awaiter : B) where
     abbrev pub IsRegistered : Type 0 → ℕ → Party F T A → Party F T A → Type 0
-    IsRegistered Stored n p r = (path : List Deed) × RegisterPath cloned woken woken_by_ref awaiter path × Did path (Looking n) p r × (gives_back path ≡ true → Stored)
+    IsRegistered Comes n p r = (path : List Deed) × RegisterPath cloned woken woken_by_ref awaiter path × Did path (Looking n) p r × Comes
 
-    pub woken_at_once : {Stored : Type 0} (p q r : Party F T A) (n : ℕ) (w : State) (clone : B) → w.notifying ≡ true → cloned awaiter (Ok clone) → (told : K) × woken_by_ref awaiter told
-        → Did (act CloneAwaiter ∷ row FindNotify w ∷ []) (UnusedClone n) p q → Did (act DropAwaiter ∷ []) (Looking (poll_number (position q))) q r → IsRegistered Stored n p r
-    woken_at_once p q r n w clone e c made g h = let a : List Deed = act CloneAwaiter ∷ row FindNotify w ∷ [] in
-        (a ++ (act DropAwaiter ∷ []), paths.finds_notifier w clone made.0 e c made.1, then_goes p q r a (act DropAwaiter ∷ []) (UnusedClone n) [] [] (λ x. Looking (poll_number x)) g h, λ z. never z)
+    pub woken_at_once : {Comes : Type 0} (by : (told : K) → woken_by_ref awaiter told → Comes) (p q r : Party F T A) (n : ℕ) (w : State) (clone : B) → w.notifying ≡ true → cloned awaiter (Ok clone) → (told : K) × woken_by_ref awaiter told
+        → Did (act CloneAwaiter ∷ row FindNotify w ∷ []) (UnusedClone n) p q → Did (act DropAwaiter ∷ []) (Looking (poll_number (position q))) q r → IsRegistered Comes n p r
+    woken_at_once by p q r n w clone e c made g h = let a : List Deed = act CloneAwaiter ∷ row FindNotify w ∷ [] in
+        (a ++ (act DropAwaiter ∷ []), paths.finds_notifier w clone made.0 e c made.1, then_goes p q r a (act DropAwaiter ∷ []) (UnusedClone n) [] [] (λ x. Looking (poll_number x)) g h, by made.0 made.1)
 
-    pub registered : {Stored : Type 0} (p r t : Party F T A) (n : ℕ) (w v : State) (stood : Bool) (held : List (ℕ × TaskPlace F T A)) (clone : B) → w.notifying ≡ false → v.notifying ≡ false → cloned awaiter (Ok clone)
-        → DidWith (stored w ++ dropped_if stood) (Registered n) held p r → Did (row EndRegister v ∷ []) (Looking (poll_number (position r))) r t → Stored → IsRegistered Stored n p t
+    pub registered : {Comes : Type 0} (p r t : Party F T A) (n : ℕ) (w v : State) (stood : Bool) (held : List (ℕ × TaskPlace F T A)) (clone : B) → w.notifying ≡ false → v.notifying ≡ false → cloned awaiter (Ok clone)
+        → DidWith (stored w ++ dropped_if stood) (Registered n) held p r → Did (row EndRegister v ∷ []) (Looking (poll_number (position r))) r t → Comes → IsRegistered Comes n p t
     registered p r t n w v stood held clone e f c g h kept = let a : List Deed = stored w ++ dropped_if stood in
-        (a ++ (row EndRegister v ∷ []), paths.registers w v stood clone e f c, then_goes p r t a (row EndRegister v ∷ []) (Registered n) held [] (λ x. Looking (poll_number x)) g h, λ z. kept)
+        (a ++ (row EndRegister v ∷ []), paths.registers w v stood clone e f c, then_goes p r t a (row EndRegister v ∷ []) (Registered n) held [] (λ x. Looking (poll_number x)) g h, kept)
 
     pub was_given_back : (p t u : Party F T A) (n : ℕ) (w v : State) (stood : Bool) (held : List (ℕ × TaskPlace F T A)) → DidWith ((stored w ++ dropped_if stood) ++ (act TakeAwaiter ∷ [])) (TookBack n) held p t
         → Did (row EndRegisterNotified v ∷ []) (CloneInHand (poll_number (position t))) t u → Did (((stored w ++ dropped_if stood) ++ (act TakeAwaiter ∷ [])) ++ (row EndRegisterNotified v ∷ [])) (CloneInHand n) p u
     was_given_back p t u n w v stood held g h = then_goes p t u ((stored w ++ dropped_if stood) ++ (act TakeAwaiter ∷ [])) (row EndRegisterNotified v ∷ []) (TookBack n) held [] (λ x. CloneInHand (poll_number x)) g h
 
-    pub was_notified : {Stored : Type 0} (p t u x : Party F T A) (n : ℕ) (w v : State) (stood : Bool) (held : List (ℕ × TaskPlace F T A)) (clone : B) → w.notifying ≡ false → v.notifying ≡ true → cloned awaiter (Ok clone) → (told : K) × woken clone told
-        → DidWith ((stored w ++ dropped_if stood) ++ (act TakeAwaiter ∷ [])) (TookBack n) held p t → Did (row EndRegisterNotified v ∷ []) (CloneInHand (poll_number (position t))) t u → Did (act WakeAwaiter ∷ []) (Looking (poll_number (position u))) u x → IsRegistered Stored n p x
-    was_notified p t u x n w v stood held clone e f c made g h k = let a : List Deed = stored w ++ dropped_if stood in let b : List Deed = (a ++ (act TakeAwaiter ∷ [])) ++ (row EndRegisterNotified v ∷ []) in (
+    pub was_notified : {Comes : Type 0} (by : (clone : B) (told : K) → cloned awaiter (Ok clone) → woken clone told → Comes) (p t u x : Party F T A) (n : ℕ) (w v : State) (stood : Bool) (held : List (ℕ × TaskPlace F T A)) (clone : B) → w.notifying ≡ false → v.notifying ≡ true → cloned awaiter (Ok clone) → (told : K) × woken clone told
+        → DidWith ((stored w ++ dropped_if stood) ++ (act TakeAwaiter ∷ [])) (TookBack n) held p t → Did (row EndRegisterNotified v ∷ []) (CloneInHand (poll_number (position t))) t u → Did (act WakeAwaiter ∷ []) (Looking (poll_number (position u))) u x → IsRegistered Comes n p x
+    was_notified by p t u x n w v stood held clone e f c made g h k = let a : List Deed = stored w ++ dropped_if stood in let b : List Deed = (a ++ (act TakeAwaiter ∷ [])) ++ (row EndRegisterNotified v ∷ []) in (
       a ++ (act TakeAwaiter ∷ row EndRegisterNotified v ∷ act WakeAwaiter ∷ []),
       paths.was_notified w v stood clone made.0 e f c made.1,
       subst (λ path. Did path (Looking n) p x) (joined stood) (then_goes p u x b (act WakeAwaiter ∷ []) (CloneInHand n) [] [] (λ x. Looking (poll_number x)) (was_given_back p t u n w v stood held g h) k),
-      none_given stood,
+      by clone made.0 c made.1,
     )
       where
-        none_given : {P : Type 0} (stood : Bool) → gives_back ((stored w ++ dropped_if stood) ++ (act TakeAwaiter ∷ row EndRegisterNotified v ∷ act WakeAwaiter ∷ [])) ≡ true → P
-        none_given true z = never z
-        none_given false z = never z
-
         joined : (stood : Bool) → (((stored w ++ dropped_if stood) ++ (act TakeAwaiter ∷ [])) ++ (row EndRegisterNotified v ∷ [])) ++ (act WakeAwaiter ∷ []) ≡ (stored w ++ dropped_if stood) ++ (act TakeAwaiter ∷ row EndRegisterNotified v ∷ act WakeAwaiter ∷ [])
         joined true = refl
         joined false = refl

@@ -17,7 +17,6 @@ use Rattle.task_steps.specs.Values.{Values}
 use Rattle.task_steps.specs.Rule.{IsOutput, Waits as SlotWaits}
 use Rattle.task_steps.specs.Steps.{work_first, awaiter_first}
 use Rattle.task_cell.specs.Calls.{Fits, Did, DidWith, places_of, position}
-use Rattle.task_cell.specs.Stores.{gives_back}
 use Rattle.task_steps.specs.Deeds.{row, act}
 use Rattle.task_steps.specs.Standing.{as_task, poll_number}
 use Rattle.task_steps.specs.PollScripts.{has_output, has_ended, has_to_wait}
@@ -132,11 +131,10 @@ module _ {F T A : Type 0} where
         → EndsRegister p q true
     finds_notified : DidWith (act TakeAwaiter ∷ []) (TookBack (poll_number (position p))) (places_of p) p q → EndsRegister p q false
 
-  -- the caller's awaiter is registered, unless its clone is refused; the clone is stored, unless a notifier is there
-  pub data Registers {B K : Type 0} (cloned : B → Result B K → Type 0) (woken woken_by_ref : B → K → Type 0) (awaiter : B) (Stored : Type 0)
+  -- the caller's awaiter is registered, which comes to this, unless its clone is refused
+  pub data Registers {B K : Type 0} (cloned : B → Result B K → Type 0) (woken woken_by_ref : B → K → Type 0) (awaiter : B) (Comes : Type 0)
       (p q : Party F T A) : Bool → Type 0 where
     is_registered : (path : List Deed) → RegisterPath cloned woken woken_by_ref awaiter path
-        → Did path (Looking (poll_number (position p))) p q → (gives_back path ≡ true → Stored)
-        → Registers cloned woken woken_by_ref awaiter Stored p q true
+        → Did path (Looking (poll_number (position p))) p q → Comes → Registers cloned woken woken_by_ref awaiter Comes p q true
     clone_refused : (told : K) → cloned awaiter (Err told) → Did (act RefuseClone ∷ act EndCall ∷ []) (as_task (poll_number (position p))) p q
-        → Registers cloned woken woken_by_ref awaiter Stored p q false
+        → Registers cloned woken woken_by_ref awaiter Comes p q false

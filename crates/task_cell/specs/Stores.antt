@@ -1,10 +1,10 @@
 -- What the clone of a poll's awaiter comes to that is put into the awaiter slot.
-use Rattle.std.specs.Prelude.{◌≡◌, ℕ, Bool, true, false, ◌||◌, List, [], ◌∷◌, Option, Some}
+use Rattle.std.specs.Prelude.{◌≡◌, ℕ, List, [], ◌∷◌, Option, Some, Ok}
 use Rattle.task_core.specs.Word.{State}
-use Rattle.task_core.specs.declared.acts.Act.{Act}
 use Rattle.task_core.specs.declared.acts.Act.TheVariants.{EndRegister}
 use Rattle.task_core.specs.declared.traits.Wake.{Ghosts}
-use Rattle.task_laws.specs.declared.positions.Position.TheVariants.{Looking, Registered}
+use Rattle.task_laws.specs.declared.positions.Position.{Position}
+use Rattle.task_laws.specs.declared.positions.Position.TheVariants.{Registered}
 use Rattle.task_laws.specs.Table.{after_storing}
 use Rattle.task_steps.specs.declared.places.Held.{Held}
 use Rattle.task_steps.specs.declared.stored.AwaiterClone.{AwaiterClone}
@@ -19,15 +19,6 @@ use Rattle.task_cell.specs.declared.cell.Party.{Party}
 use Rattle.task_cell.specs.Calls.{Did, DidWith, position}
 use Rattle.task_steps.specs.Steps.{awaiter_first}
 
--- by this path the slot was given back with the clone in it
-abbrev pub gives_back : List Deed → Bool
-gives_back [] = false
-gives_back (d ∷ path) = is_end d.act || gives_back path
-  where
-    is_end : Act → Bool
-    is_end EndRegister = true
-    is_end _ = false
-
 module _ {F T A : Type 0} where
   -- the clone is put in, and an older awaiter that stood there is in hand: the one that the poll of this number has stored
   abbrev pub PutsClone : ℕ → Option ℕ → StoredAwaiter A → Party F T A → Party F T A → Option (Held (StoredAwaiter A)) → Type 0
@@ -35,14 +26,22 @@ module _ {F T A : Type 0} where
 
   -- the poll of this number has given the slot back with this awaiter in it
   pub record GivesBack (i : ℕ) (stored : StoredAwaiter A) (p q : Party F T A) : Type 0 where
-    pub deeds : List Deed
+    pub before : List Deed
     pub between : Party F T A
     pub word : State
+    pub after : List Deed
+    pub at : Position
     pub number : stored_by stored ≡ i
-    pub has : DidWith deeds (Registered i) (awaiter_first (Some stored) []) p between
-    pub gives : Did (row EndRegister word ∷ []) (Looking i) between q
+    pub has : DidWith before (Registered i) (awaiter_first (Some stored) []) p between
+    pub gives : Did (row EndRegister word ∷ after) at between q
 
 -- the same, and the awaiter is a clone of the one that the poll was lent, as its type says
 abbrev pub StoresClone : {F T A K : Type 0} (G : Ghosts A K) → A → Party F T (AwaiterClone A K G) → Party F T (AwaiterClone A K G) → Type 0
 StoresClone {A = A} {K = K} G lent p q =
     (stored : StoredAwaiter (AwaiterClone A K G)) × (stored.awaiter.lent.value ≡ lent) × GivesBack (poll_number (position p)) stored p q
+
+-- what a poll has done for the awaiter that it was lent, before it answers Pending
+pub data Registration {F T A K : Type 0} (G : Ghosts A K) (lent : A) (p q : Party F T (AwaiterClone A K G)) : Type 0 where
+  is_stored : StoresClone G lent p q → Registration G lent p q
+  is_woken : (told : K) → G.woken_by_ref lent told → Registration G lent p q
+  clone_is_woken : (clone : A) (told : K) → G.cloned lent (Ok clone) → G.woken clone told → Registration G lent p q

@@ -7,6 +7,7 @@ ghost use Rattle.task_laws.specs.declared.positions.NotifyingCall.TheVariants.{O
 ghost use Rattle.task_core.specs.declared.acts.Act.TheVariants.{EndCall};
 ghost use Rattle.task_steps.specs.declared.table.Deed.{Deed};
 ghost use Rattle.task_cell.specs.PollPaths.{PollPath, AnswerPath, TakePath, Looks, LooksAgain, IfHandedOut};
+ghost use Rattle.task_cell.specs.Stores.{Registration};
 ghost use Rattle.task_steps.specs.Standing.{poll_number, as_task};
 ghost use Rattle.task_steps.specs.PollScripts.{has_ended as has_ended_word};
 ghost use Rattle.task_steps.specs.Steps.{saw_ended};
@@ -145,6 +146,7 @@ impl<R: Wait + Drop + Copy, F: Yields, Q: Drop, M: Drop, A: Wake, B: Allocator +
         ensures yielded { IfHandedOut result (λ kept. HasYielded self.now kept.output) }
         ensures ended { saw_ended (deeds party.old) ≡ true → result ≡ TaskPoll.Ready None }
         ensures closed { result ≡ TaskPoll.Ready None → saw_ended (deeds party.new) ≡ true }
+        ensures registered { result ≡ TaskPoll.Pending → Registration A.Wake awaiter.now.awaiter.now party.old party.new }
     {
         let found = match self.look(party) {
             Ok(found) => {
@@ -169,6 +171,7 @@ impl<R: Wait + Drop + Copy, F: Yields, Q: Drop, M: Drop, A: Wake, B: Allocator +
     ///
     /// Where there is no answer yet, a clone of the awaiter is registered in the place of the one before, and is woken once there is one.
     /// The output is one that the spawned future has answered, after polls that answered Pending, and it meets what the future's type states.
+    /// A poll that answers Pending has stored that clone, as the one of its number, or has woken the awaiter, or a clone of it.
     /// A poll registers at most once. It waits for nobody, but tries a step anew where another party changed the word meanwhile.
     /// Once it has answered ready without output, each later poll answers the same.
     pub fn poll(
@@ -182,6 +185,7 @@ impl<R: Wait + Drop + Copy, F: Yields, Q: Drop, M: Drop, A: Wake, B: Allocator +
         ensures yielded { IfHandedOut result (λ kept. HasYielded self.now kept.output) }
         ensures ended { saw_ended (deeds party.old) ≡ true → result ≡ TaskPoll.Ready None }
         ensures closed { result ≡ TaskPoll.Ready None → saw_ended (deeds party.new) ≡ true }
+        ensures registered { result ≡ TaskPoll.Pending → Registration A.Wake awaiter.now party.old party.new }
     {
         let (lent, once) = LentAwaiter::new(awaiter);
         self.poll_lent(party, &lent, once)

@@ -8,7 +8,7 @@ ghost use Rattle.task_steps.specs.declared.table.Deed.{Deed};
 ghost use Rattle.task_steps.specs.Rule.{Waits};
 ghost use Rattle.task_steps.specs.Stored.{poll_of, stored_by};
 ghost use Rattle.task_cell.specs.PollPaths.{RegisterPath, Registers, BeginsRegister, EndsRegister, dropped_if};
-ghost use Rattle.task_cell.specs.Stores.{PutsClone, StoresClone, gives_back};
+ghost use Rattle.task_cell.specs.Stores.{PutsClone, Registration};
 ghost use Rattle.task_steps.specs.Standing.{poll_number, as_task};
 ghost use Rattle.task_cell.specs.Calls.{Stands, StandsWith, Did, DidWith, position, places_of};
 ghost use Rattle.task_steps.specs.Attempts.{HasMissed};
@@ -184,7 +184,7 @@ impl<R: Wait + Drop + Copy, F: Yields, Q: Drop, M: Drop, A: Wake, B: Allocator +
         requires cloned { A.cloned awaiter.now.awaiter.now (Ok clone.value.awaiter.awaiter) }
         requires lent { clone.value.awaiter.lent.value ≡ awaiter.now.awaiter.now }
         requires number { stored_by clone.value ≡ poll_number (position party.old) }
-        ensures { (path : List Deed) × RegisterPath A.cloned A.woken A.woken_by_ref awaiter.now.awaiter.now path × Did path (Looking (poll_number (position party.old))) party.old party.new × (gives_back path ≡ true → StoresClone A.Wake awaiter.now.awaiter.now party.old party.new) }
+        ensures { (path : List Deed) × RegisterPath A.cloned A.woken A.woken_by_ref awaiter.now.awaiter.now path × Did path (Looking (poll_number (position party.old))) party.old party.new × Registration A.Wake awaiter.now.awaiter.now party.old party.new }
     {
         if !self.begin_register(party) {
             awaiter.wake(once, party);
@@ -209,7 +209,7 @@ impl<R: Wait + Drop + Copy, F: Yields, Q: Drop, M: Drop, A: Wake, B: Allocator +
     ) -> bool
         requires cell { IsOf self.now party.old }
         requires party { (i : ℕ) × Stands (Registrar i) party.old }
-        ensures { Registers A.cloned A.woken A.woken_by_ref awaiter.now.awaiter.now (StoresClone A.Wake awaiter.now.awaiter.now party.old party.new) party.old party.new result }
+        ensures { Registers A.cloned A.woken A.woken_by_ref awaiter.now.awaiter.now (Registration A.Wake awaiter.now.awaiter.now party.old party.new) party.old party.new result }
     {
         match awaiter.try_clone(party) {
             Ok(clone) => {

@@ -1,8 +1,9 @@
-use Rattle.task_cell.proofs.Vocabulary.{◌∷◌, [], ◌++◌, sym, ◌∙◌, refl, true, false, Ok, Err, OfPoll, Notifier, Registrar, Looking, Look, ClaimOutput, position, row, poll_number}
-use Rattle.task_cell.proofs.Moved.{stands}
+use Rattle.task_cell.proofs.Vocabulary.{◌∷◌, [], ◌++◌, sym, ap, ◌∙◌, refl, true, false, Ok, Err, OfPoll, Notifier, Registrar, Looking, Look, ClaimOutput, as_task, position, row, poll_number}
+use Rattle.task_cell.proofs.Moved.{stands, position_is}
 use Rattle.task_cell.proofs.PollSeen.{poll_saw, still_ended}
 use Rattle.task_cell.proofs.PollWays.{has_claimed}
-use Rattle.task_cell.proofs.PollAnswers.{seen, saw, came, is_looking, polled_output, polled_ended, polled_refused, polled_again}
+use Rattle.task_cell.proofs.PollAnswers.{seen, saw, came, comes, is_looking, polled_output, polled_ended, polled_refused, polled_again}
+use Rattle.task_cell.proofs.Registrations.{registers_after, registers_first}
 use Rattle.task_cell.specs.Belongs.{HasYielded}
 use Rattle.task_cell.proofs.Vocabulary.{subst}
 use Rattle.task_cell.proofs.cell.poll.Share+R+F+Q+M+AwaiterClone+A+B.poll_lent.Goals as goal
@@ -18,6 +19,7 @@ returns-in-Ok g c = let p = c.args.party.now in let q = c.look.new.party in let 
       yielded = subst (λ k. HasYielded c.args.self.now k.output) (sym c.hand_out.ensures) c.take_output-output.ensures.yielded;
       ended = λ z. let e = c.in-Ok.ensures.ended z in cc;
       closed = λ z. poll_saw g.A.Wake.cloned g.A.Wake.woken g.A.Wake.woken_by_ref g.A.Wake.compared c.args.awaiter.now.awaiter.now p c.take_output-output.new.party whole.0 _ _ whole.1 whole.2 z;
+      registered = λ z. absurd (cc);
     }
 
 pub answer_closed-requires-clause-party : goal.answer_closed-requires-clause-party
@@ -32,6 +34,7 @@ returns-then-has_ended g c = let p = c.args.party.now in let q = c.look.new.part
       yielded = tt;
       ended = λ z. refl;
       closed = λ z. poll_saw g.A.Wake.cloned g.A.Wake.woken g.A.Wake.woken_by_ref g.A.Wake.compared c.args.awaiter.now.awaiter.now p c.answer_closed.new.party whole.0 _ _ whole.1 whole.2 z;
+      registered = λ z. absurd (cc);
     }
 
 pub register-requires-clause-party : goal.register-requires-clause-party
@@ -46,6 +49,7 @@ returns-then-not-register g c = let p = c.args.party.now in let q = c.look.new.p
       yielded = tt;
       ended = λ z. still_ended w (c.in-Err.ensures.ended z) f;
       closed = λ z. poll_saw g.A.Wake.cloned g.A.Wake.woken g.A.Wake.woken_by_ref g.A.Wake.compared c.args.awaiter.now.awaiter.now p c.register.new.party whole.0 _ _ whole.1 whole.2 z;
+      registered = λ z. absurd (cc);
     }
 
 pub answer-requires-clause-cell : goal.answer-requires-clause-cell
@@ -57,11 +61,14 @@ answer-requires-clause-party g c = let p = c.args.party.now in let q = c.look.ne
     (n, stands p c.register.new.party ((row Look w ∷ []) ++ r.0) (Looking n) [] (is_looking g.A.Wake.cloned g.A.Wake.woken g.A.Wake.woken_by_ref g.A.Wake.compared c.args.awaiter.now.awaiter.now w n r.0 p q c.register.new.party on r.2))
 
 pub returns : goal.returns
-returns g c = let p = c.args.party.now in let q = c.look.new.party in let w = c.in-Err.found in let n = poll_number (position p) in let f = sym c.has_ended.ensures ∙ c.if-has_ended.false in let s = seen p q (Err w) c.in-Err.ensures.path in let on = saw w p q false s f in let r = came g.A.Wake.cloned g.A.Wake.woken g.A.Wake.woken_by_ref g.A.Wake.compared c.args.awaiter.now.awaiter.now q c.register.new.party c.register.result true c.register.ensures c.if-not-register.false in
+returns g c = let p = c.args.party.now in let q = c.look.new.party in let w = c.in-Err.found in let n = poll_number (position p) in let f = sym c.has_ended.ensures ∙ c.if-has_ended.false in let s = seen p q (Err w) c.in-Err.ensures.path in let on = saw w p q false s f in let r = came g.A.Wake.cloned g.A.Wake.woken g.A.Wake.woken_by_ref g.A.Wake.compared c.args.awaiter.now.awaiter.now q c.register.new.party c.register.result true c.register.ensures c.if-not-register.false in let k = c.answer.ensures.path in
     let whole = polled_again g.A.Wake.cloned g.A.Wake.woken g.A.Wake.woken_by_ref g.A.Wake.compared c.args.awaiter.now.awaiter.now w n c.answer.result p q c.register.new.party c.answer.new.party s.0 f on r c.answer.ensures.path in
     record {
       path = whole;
       yielded = c.answer.ensures.yielded;
       ended = λ z. still_ended w (c.in-Err.ensures.ended z) f;
       closed = λ z. poll_saw g.A.Wake.cloned g.A.Wake.woken g.A.Wake.woken_by_ref g.A.Wake.compared c.args.awaiter.now.awaiter.now p c.answer.new.party whole.0 _ _ whole.1 whole.2 z;
+      registered = λ z. let lent = c.args.awaiter.now.awaiter.now in let m = c.register.new.party in let same = ap poll_number (position_is q (Registrar n) [] (stands p q (row Look w ∷ []) (Registrar n) [] on)) in
+          let came = comes g.A.Wake.cloned g.A.Wake.woken g.A.Wake.woken_by_ref g.A.Wake.compared lent q m c.register.result c.register.ensures c.if-not-register.false in
+          registers_first g.A.Wake lent p m c.answer.new.party k.0 (as_task (poll_number (position m))) (registers_after g.A.Wake lent p q m (row Look w ∷ []) (Registrar n) on same came) k.2;
     }
