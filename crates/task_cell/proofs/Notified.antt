@@ -3,7 +3,7 @@ use Rattle.task_steps.specs.Values.{Values}
 use Rattle.task_steps.specs.declared.stored.StoredAwaiter.{StoredAwaiter}
 use Rattle.task_cell.proofs.Vocabulary.{◌≡◌, ℕ, Bool, true, false, not, ◌&&◌, ◌||◌, List, [], ◌∷◌, Option, Some, None, refl, sym, ap, ◌∙◌, subst, if◌then◌else◌, State, NotifyingCall, Notifier}
 use Rattle.task_cell.proofs.Vocabulary.{Releaser, MissNotify, BeginNotify, TakeAwaiter, EndNotify, after_taking, TaskPlace, Deed, Party, Waits, Makes, taking_awaiter, releasing_awaiter}
-use Rattle.task_cell.proofs.Vocabulary.{awaiter_first, held, is_some, Fits, position, places_of, StandsWith, DidWith, Notifies, misses, finds_none, takes_awaiter, row, act, way_of, on_work, on_free, same_way, arith}
+use Rattle.task_cell.proofs.Vocabulary.{awaiter_first, held, Fits, position, places_of, StandsWith, DidWith, Notifies, misses, finds_none, takes_awaiter, row, act, way_of, on_work, on_free, same_way, arith}
 use Rattle.task_cell.specs.Calls.{BeginsNotify, finds_another, takes_place, EndsNotify}
 use Rattle.task_steps.specs.declared.places.Held.{Held}
 use Rattle.task_cell.proofs.Moved as moved

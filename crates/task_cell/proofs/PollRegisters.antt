@@ -6,7 +6,6 @@ use Rattle.task_cell.proofs.Vocabulary.{Waits, position, places_of, StandsWith, 
 use Rattle.task_cell.proofs.Vocabulary.{Result, Ok, poll_number, same_first, TaskPlace, awaiter_first, Second}
 use Rattle.task_cell.specs.PollPaths as paths
 use Rattle.task_cell.proofs.Moved.{held_is, position_is, stands}
-use Rattle.task_cell.proofs.Vocabulary.{never}
 use Rattle.task_cell.specs.Stores.{GivesBack}
 use Rattle.task_steps.specs.Stored.{stored_by}
 use Rattle.task_cell.proofs.PollWays.{then_goes}

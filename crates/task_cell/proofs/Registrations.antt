@@ -3,7 +3,7 @@ use Rattle.task_cell.proofs.Vocabulary.{◌≡◌, ℕ, Some, List, [], ◌∷�
 use Rattle.task_core.specs.declared.traits.Wake.{Ghosts}
 use Rattle.task_steps.specs.declared.stored.AwaiterClone.{AwaiterClone}
 use Rattle.task_steps.specs.declared.stored.StoredAwaiter.{StoredAwaiter}
-use Rattle.task_cell.specs.Stores.{GivesBack, StoresClone, Registration, is_stored, is_woken, clone_is_woken}
+use Rattle.task_cell.specs.Stores.{GivesBack, Registration, is_stored, is_woken, clone_is_woken}
 use Rattle.task_cell.proofs.Moved.{did_then}
 
 module _ {F T A : Type 0} (i : ℕ) (stored : StoredAwaiter A) (p q r : Party F T A) (path : List Deed) (at : Position) where
