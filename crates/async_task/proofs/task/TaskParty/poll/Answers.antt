@@ -23,3 +23,6 @@ returns-in-Ready-Some-clause-path g c = polls_as (λ (kept : Kept g.row.F.Denot 
 pub returns-in-Ready-None-clause-path : goal.returns-in-Ready-None-clause-path
 returns-in-Ready-None-clause-path g c = polls_as (λ (kept : Kept g.row.F.Denot g.row.F-Output.Denot g.F.Yields). kept.output)
     g.A.Wake.cloned g.A.Wake.woken g.A.Wake.woken_by_ref g.A.Wake.compared c.args.awaiter.now c.args.self.now.party c.poll.new.party c.poll.result _ (c.in-Ready-None.is ∙ ap Ready c.in-Ready-None.field-0-is) c.poll.ensures.path
+
+pub returns-in-Pending-clause-registered : goal.returns-in-Pending-clause-registered
+returns-in-Pending-clause-registered g c = λ e. c.poll.ensures.registered c.in-Pending.is
