@@ -10,7 +10,6 @@ use crate::player::Player;
 use crate::rendezvous::Rendezvous;
 use crate::surroundings::SentRunnable;
 use std::alloc::{AllocError, Global};
-use std::process::Abort;
 use std::sync::Wait;
 use std::thread;
 use std::thread::Threads;
@@ -107,26 +106,12 @@ fn meet<R: Wait + Drop + Copy>(player: &mut Player<'_, '_, R>, meeting: &Rendezv
     meeting.release();
 }
 
-// Plays a script in surroundings of its own.
-fn play_alone<R>(rt: R, alloc: Global, text: &str) -> Result<Played, Missing>
+/// Plays a script in surroundings of its own, as `play` does.
+pub fn play_alone<R>(rt: R, alloc: Global, text: &str) -> Result<Played, Missing>
 where
     R: Wait + Threads + Drop + Copy + Send + Sync,
 {
     let counting = Counting::new(alloc);
     let fixture = Fixture::new(rt, alloc, &counting)?;
     play(&fixture, alloc, text)
-}
-
-/// Plays a script in surroundings of its own. Stops where a step is not as it says, or something is missing.
-pub fn check_script<R>(rt: R, alloc: Global, text: &str)
-where
-    R: Wait + Threads + Abort + Drop + Copy + Send + Sync,
-{
-    match play_alone(rt, alloc, text) {
-        Ok(played) => {
-            let failed = played.failed;
-            assert!(rt; failed.is_none(), "step {failed:?} of {text}");
-        }
-        Err(missing) => panic!(rt; "{missing}"),
-    }
 }

@@ -1,4 +1,4 @@
-//! Tests of what is refused: a spawn its one request for memory, and wakers at the limit of references.
+//! Tests of a spawn that is refused its one request for memory.
 //! Of what is only tested (docs/PROOFS.md): Memory and limits.
 ghost use Rattle.std.specs.Prelude.{⊤};
 
@@ -14,7 +14,6 @@ use rows_fixtures::counting::Counting;
 use rows_fixtures::flag::Flag;
 use rows_fixtures::future::RowFuture;
 use rows_fixtures::output::{Output, is_ready_with};
-use rows_fixtures::script::check_script;
 use rows_fixtures::surroundings::Scheduler;
 use std::alloc::{Allocator, Global};
 use std::process::Abort;
@@ -251,16 +250,4 @@ fn a_refused_builder_hands_everything_back(rt: HostRuntime) {
     let refused = build_in(rt, rt.alloc(), FEW);
     let spawned = build_in(rt, rt.alloc(), MANY);
     assert!(rt; [refused, spawned] == [Err(true), Ok(true)]);
-}
-
-// At a limit of two references: the waker of a Runnable, a clone of a waker, and in the run a clone of the waker that is lent are refused while there is a waker; so
-// are clones of a waker and of its clone after the run. No share of the cell stays behind.
-#[test]
-fn a_refused_waker_keeps_no_memory(rt: HostRuntime) {
-    check_script(
-        rt,
-        rt.alloc(),
-        "drop_each; spawn_limited 2 keep_pending; waker; waker_refused; clone_refused; run; none_stored; counted 1 0 0 0; \
-         clone_waker; clone_refused; drop_waker; drop_waker; held; drop_task; freed; counted 1 1 1 1",
-    );
 }

@@ -2,6 +2,7 @@
 
 mod awaiter_tests;
 mod builder_tests;
+mod check;
 mod ending_tests;
 mod lent_tests;
 mod limit_tests;

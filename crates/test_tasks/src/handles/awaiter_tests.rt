@@ -1,7 +1,7 @@
 //! Tests of stored awaiters: which one a task keeps, and how each clone ends.
 //! Of what is only tested (docs/PROOFS.md): Drops.
 
-use rows_fixtures::script::check_script;
+use crate::handles::check::check_script;
 
 // The task is polled twice while it is scheduled, once while it is idle, and once after it was woken. Each poll drops the awaiter of the one before, and the run
 // that completes wakes the last awaiter alone.

@@ -1,8 +1,8 @@
 //! Tests of what handles and builders show, and of the word that a witness of each handle finds.
 //! Of what is only tested (docs/PROOFS.md): Handles.
 
+use crate::handles::check::check_script;
 use async_task::Builder;
-use rows_fixtures::script::check_script;
 use std::alloc::Global;
 use std::fmt;
 use std::process::Abort;

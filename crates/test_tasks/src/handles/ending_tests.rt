@@ -1,7 +1,7 @@
 //! Tests of the ways in which a task ends: in which order its parts are dropped, and that its block is given back with the last handle.
 //! Of what is only tested (docs/PROOFS.md): Drops.
 
-use rows_fixtures::script::check_script;
+use crate::handles::check::check_script;
 
 // Each way: the events of a life, and after each call whether the task has its one block, of which nothing is left at last.
 const LIVES: [&str; 10] = [

@@ -1,6 +1,6 @@
 //! Tests of wakes that a call makes too often, which only a wake that is acted on at once shows, or a poll beside the end of a run.
 
-use rows_fixtures::script::check_script;
+use crate::handles::check::check_script;
 
 // The schedule value runs each Runnable before it returns. The run of the spawn polls, and that of the wake: a second wake by it would find the task idle once
 // more.

@@ -2,7 +2,7 @@
 //! it does would go the same where no memory is left.
 //! Of what is only tested (docs/PROOFS.md): Memory and limits.
 
-use rows_fixtures::script::check_script;
+use crate::handles::check::check_script;
 
 // A drop of the Runnable and a detach, then the other way round. The drop alone gives no memory back.
 #[test]

@@ -1,6 +1,7 @@
 //! Tests of calls that a second thread makes while the future is polled, or while a Task registers: the drop of the older awaiter is the one place for that.
 //! Of what is only tested (docs/PROOFS.md): Threads.
 
+use crate::handles::check::check_script;
 use async_task::{TaskClosed, TaskPoll};
 use rows_fixtures::behaviour::Behaviour;
 use rows_fixtures::counters::Counts;
@@ -9,7 +10,6 @@ use rows_fixtures::fixture::Fixture;
 use rows_fixtures::flag::Flag;
 use rows_fixtures::output::is_ready_with;
 use rows_fixtures::rendezvous::Rendezvous;
-use rows_fixtures::script::check_script;
 use rows_fixtures::surroundings::{RowTask, SentRunnable};
 use std::alloc::Global;
 use std::process::Abort;

@@ -1,7 +1,7 @@
 //! Tests of a Task, of a FallibleTask and of a Cancel.
 //! Of what is only tested (docs/PROOFS.md): Drops, Paths, Handles.
 
-use rows_fixtures::script::check_script;
+use crate::handles::check::check_script;
 
 // What a Task leaves that is let go, before the first run or after it.
 const LEFT: [&str; 11] = [

@@ -1,6 +1,7 @@
 //! Tests of wakers, how many Runnables they queue, and of an awaiter; and of handles that are forgotten.
 //! Of what is only tested (docs/PROOFS.md): Paths, Handles.
 
+use crate::handles::check::check_script;
 use async_task::{Runnable, Task, TaskClosed, TaskPoll, Wake, spawn};
 use rows_fixtures::behaviour::Behaviour;
 use rows_fixtures::counters::Counts;
@@ -9,7 +10,6 @@ use rows_fixtures::fixture::Fixture;
 use rows_fixtures::flag::Flag;
 use rows_fixtures::future::RowFuture;
 use rows_fixtures::output::is_ready_with;
-use rows_fixtures::script::check_script;
 use rows_fixtures::surroundings::{RowWaker, Scheduler};
 use std::alloc::Global;
 use std::process::Abort;
