@@ -2,6 +2,8 @@
 ghost use Rattle.std.specs.Prelude.{◌≡◌, Some, IfSome};
 ghost use Rattle.rows_fixtures.specs.Behaviour.{answer_of};
 
+use crate::words::Words;
+
 /// What a future of the rows does when it is polled.
 #[derive(Clone, Copy, Debug, PartialEq, Eq)]
 pub enum Behaviour {
@@ -19,9 +21,30 @@ pub enum Behaviour {
     DropTask(u64),
     /// It wakes the waker that it is lent and answers pending first, and then ready, with this number.
     Yield(u64),
+    /// At each poll it wakes the waker that it is lent, drops the Task that was kept, and answers pending.
+    Cancel,
 }
 
 impl Behaviour {
+    /// The behaviour that these words of a step tell.
+    pub fn read(words: &mut Words<'_>) -> Option<Behaviour> {
+        let behaviour = match words.next() {
+            "ready" => Behaviour::Ready(words.number()?),
+            "pending" => Behaviour::Pending,
+            "sum" => {
+                let first = u32::try_from(words.number()?).ok()?;
+                Behaviour::Sum(first, u32::try_from(words.number()?).ok()?)
+            }
+            "keep" => Behaviour::Keep(words.number()?),
+            "keep_pending" => Behaviour::KeepPending,
+            "drop_task" => Behaviour::DropTask(words.number()?),
+            "yield" => Behaviour::Yield(words.number()?),
+            "cancel" => Behaviour::Cancel,
+            _ => return None,
+        };
+        Some(behaviour)
+    }
+
     /// The number that a poll answers, or `None` where it is pending; `again` where the future was polled before.
     pub fn answer(self, again: bool) -> Option<u64>
         ensures { IfSome result (λ number. answer_of self ≡ Some number) }
@@ -33,7 +56,8 @@ impl Behaviour {
             Behaviour::Pending
             | Behaviour::Keep(_)
             | Behaviour::KeepPending
-            | Behaviour::Yield(_) => None,
+            | Behaviour::Yield(_)
+            | Behaviour::Cancel => None,
         }
     }
 
@@ -44,11 +68,11 @@ impl Behaviour {
 
     /// Whether each poll drops the Task that was kept.
     pub fn drops_task(self) -> bool {
-        matches!(self, Behaviour::DropTask(_))
+        matches!(self, Behaviour::DropTask(_) | Behaviour::Cancel)
     }
 
-    /// Whether the first poll wakes the waker that it is lent.
+    /// Whether a poll that answers pending wakes the waker that it is lent.
     pub fn yields(self) -> bool {
-        matches!(self, Behaviour::Yield(_))
+        matches!(self, Behaviour::Yield(_) | Behaviour::Cancel)
     }
 }

@@ -1,5 +1,5 @@
 //! What each row works with, and what it answers.
-ghost use Rattle.std.specs.Prelude.{◌≡◌, ◌↔◌, IsTrue, IfOk, false, min};
+ghost use Rattle.std.specs.Prelude.{◌≡◌, ◌↔◌, IsTrue, IfOk, min};
 ghost use Rattle.std.specs.Arc.{arc_value};
 ghost use Rattle.task_cell.specs.Belongs.{cell_of};
 ghost use Rattle.task_core.specs.declared.word.TheConstants.{LIMIT};
@@ -10,9 +10,9 @@ use crate::executor::{PriorityQueue, PriorityRunnable, PriorityScheduler, Priori
 use crate::flag::Flag;
 use crate::future::RowFuture;
 use crate::outcome::Outcome;
-use crate::shown::shows;
-use crate::surroundings::{BareRunnable, BareTask, RowRunnable, RowTask, Scheduler, Surroundings};
-use async_task::{Builder, spawn};
+use crate::shown;
+use crate::surroundings::{Memory, RowRunnable, RowTask, Scheduler, Surroundings, Tag};
+use async_task::Builder;
 use std::alloc::{AllocError, Global};
 use std::fmt;
 use std::sync::{Arc, Wait};
@@ -20,17 +20,20 @@ use std::sync::{Arc, Wait};
 // Room in the queue: more than any row needs.
 const ROOM: usize = 8;
 
-/// Surroundings of a row's own, and its counters.
-pub struct Fixture<R: Wait + Drop + Copy> {
+/// Surroundings of a row's own, its counters, and the memory of its tasks.
+pub struct Fixture<'m, R: Wait + Drop + Copy> {
     /// The queue and the stores of the row.
-    pub surroundings: Surroundings<R>,
+    pub surroundings: Surroundings<'m, R>,
     /// What the row may wait by, and start threads by.
     pub rt: R,
-    counters: Arc<Counters>,
+    /// What its futures, outputs, schedule values, metadata and awaiters count and note.
+    pub counters: Arc<Counters>,
     alloc: Global,
+    /// The memory of its tasks.
+    pub memory: Memory<'m>,
 }
 
-impl<R: Wait + Drop + Copy> Drop for Fixture<R> {
+impl<'m, R: Wait + Drop + Copy> Drop for Fixture<'m, R> {
     // As a derived drop, which would stand field by field in each test that drops a fixture.
     fn drop(self) {
         let Fixture {
@@ -38,6 +41,7 @@ impl<R: Wait + Drop + Copy> Drop for Fixture<R> {
             rt,
             counters,
             alloc: _,
+            memory: _,
         } = self;
         drop(surroundings);
         drop(rt);
@@ -45,9 +49,9 @@ impl<R: Wait + Drop + Copy> Drop for Fixture<R> {
     }
 }
 
-impl<R: Wait + Drop + Copy> Fixture<R> {
-    /// Surroundings with an empty queue and empty stores, and counters at zero.
-    pub fn new(rt: R, alloc: Global) -> Result<Fixture<R>, AllocError> {
+impl<'m, R: Wait + Drop + Copy> Fixture<'m, R> {
+    /// Surroundings with an empty queue and empty stores, and counters at zero. The tasks take their blocks from `memory`.
+    pub fn new(rt: R, alloc: Global, memory: Memory<'m>) -> Result<Fixture<'m, R>, AllocError> {
         let surroundings = Surroundings::new(rt, alloc, ROOM)?;
         let counters = Arc::new(alloc, Counters::new())?;
         Ok(Fixture {
@@ -55,51 +59,30 @@ impl<R: Wait + Drop + Copy> Fixture<R> {
             rt,
             counters,
             alloc,
+            memory,
         })
     }
 
-    /// Spawns a task whose future behaves like that.
+    /// Spawns a task whose future behaves like that, and which may have that many references.
     pub fn spawn(
         &self,
         behaviour: Behaviour,
-    ) -> Result<(RowRunnable<'_, R>, RowTask<'_, R>), AllocError>
-        ensures shares { IfOk result (λ handles. cell_of handles.1.inner.share ≡ cell_of handles.0.inner.share) }
-    {
-        let (future, scheduler) = self.counted(behaviour)?;
-        spawn(self.rt, self.alloc, future, scheduler, &self.surroundings).map_err(|_| AllocError)
-    }
-
-    /// Spawns a task whose future behaves like that, and which may have that many references.
-    pub fn spawn_limited(
-        &self,
-        behaviour: Behaviour,
         references: u64,
-    ) -> Result<(RowRunnable<'_, R>, RowTask<'_, R>), AllocError>
+    ) -> Result<(RowRunnable<'_, 'm, R>, RowTask<'_, 'm, R>), AllocError>
         ensures shares { IfOk result (λ handles. cell_of handles.1.inner.share ≡ cell_of handles.0.inner.share) }
         ensures limit { IfOk result (λ handles. handles.0.inner.share.block.key.limit ≡ min references LIMIT) }
     {
         let (future, scheduler) = self.counted(behaviour)?;
+        let tag = Tag::new(Arc::try_clone(&self.counters)?);
+        let maker = |tag: &Tag| {
+            tag.count_maker();
+            future
+        };
         Builder::new()
             .reference_limit(references)
-            .spawn(
-                self.rt,
-                self.alloc,
-                |_| future,
-                scheduler,
-                &self.surroundings,
-            )
+            .metadata(tag)
+            .spawn(self.rt, self.memory, maker, scheduler, &self.surroundings)
             .map_err(|_| AllocError)
-    }
-
-    /// Spawns a task without surroundings, whose future behaves like that and whose schedule value drops each Runnable.
-    pub fn spawn_bare(
-        &self,
-        behaviour: Behaviour,
-    ) -> Result<(BareRunnable<R>, BareTask<R>), AllocError>
-        ensures shares { IfOk result (λ handles. cell_of handles.1.inner.share ≡ cell_of handles.0.inner.share) }
-    {
-        let (future, scheduler) = self.counted(behaviour)?;
-        spawn(self.rt, self.alloc, future, scheduler, ()).map_err(|_| AllocError)
     }
 
     /// Spawns a task of that priority, whose future behaves like that.
@@ -135,26 +118,27 @@ impl<R: Wait + Drop + Copy> Fixture<R> {
         Ok(RowFuture::new(behaviour, Arc::try_clone(&self.counters)?))
     }
 
-    /// Counts an order to queue a task of one thread, which has no schedule value.
-    pub fn count_order(&self) {
-        self.counters.schedules.add_one();
-    }
-
     /// An empty queue in order of priority, with room for that many Runnables.
     pub fn priorities(&self, room: usize) -> Result<PriorityQueue<R>, AllocError> {
         PriorityQueue::new(self.rt, self.alloc, room)
     }
 
-    /// Whether a Runnable or Task without metadata shows the flags and the count of that word.
-    pub fn shows<H: fmt::Debug>(&self, handle: &H, word: u64) -> Result<bool, AllocError> {
-        shows(self.alloc, handle, word)
+    /// Whether a handle shows its own name, and the flags and the count of that word.
+    pub fn shows<H: fmt::Debug>(
+        &self,
+        handle: &H,
+        name: &str,
+        word: u64,
+    ) -> Result<bool, AllocError> {
+        shown::shows(self.alloc, handle, name, word)
     }
 
-    /// An awaiter of that number.
+    /// An awaiter of that number, whose ends are noted.
     pub fn flag(&self, number: u64) -> Result<Flag, AllocError>
         ensures { IfOk result (λ flag. flag.number ≡ number) }
     {
-        Flag::new(self.alloc, number)
+        let journal = Arc::try_clone(&self.counters)?;
+        Flag::noting(self.alloc, number, Some(journal))
     }
 
     /// The numbers that the row would print now.
@@ -162,37 +146,10 @@ impl<R: Wait + Drop + Copy> Fixture<R> {
         self.counters.counts()
     }
 
-    /// The number of outputs that were dropped.
-    pub fn output_drops(&self) -> u64 {
-        self.counters.output_drops.get()
-    }
-
-    /// The number of calls of schedule values by priority that were told that the task was woken while it ran.
-    pub fn woken_calls(&self) -> u64 {
-        self.counters.woken_calls.get()
-    }
-
-    /// The number of polls that began while another poll was under way.
-    pub fn overlaps(&self) -> u64 {
-        self.counters.overlaps.get()
-    }
-
-    /// The number of calls of schedule values that dropped their Runnable and ended before any schedule value was dropped.
-    pub fn undropped_ends(&self) -> u64 {
-        self.counters.undropped_ends.get()
-    }
-
     /// The row's end: it agrees where what it saw did, and where its counters are the expected ones.
     pub fn end(&self, agrees: bool, expected: Counts) -> Outcome
         ensures { IsTrue result.agrees ↔ (IsTrue agrees × (result.counts ≡ expected)) }
     {
         Outcome::of(self.counts(), agrees, expected)
-    }
-
-    /// The end of a row that found something missing that its next call needs: it does not agree.
-    pub fn give_up(&self) -> Outcome
-        ensures { result.agrees ≡ false }
-    {
-        Outcome::given_up(self.counts())
     }
 }

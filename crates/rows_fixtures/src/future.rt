@@ -3,11 +3,12 @@ ghost use Rattle.std.specs.Prelude.{◌≡◌, false};
 ghost use Rattle.task_core.specs.Poll.{IfReady};
 
 use crate::behaviour::Behaviour;
-use crate::counters::Counters;
+use crate::counters::{Counters, Event};
 use crate::executor::PriorityWaker;
 use crate::output::Output;
 use crate::surroundings::{RowWaker, Scheduler};
 use async_task::{Future, Poll, TaskWaker, Wake, Yields};
+use std::alloc::Allocator;
 use std::mem;
 use std::sync::{Arc, Wait};
 
@@ -75,6 +76,7 @@ impl Drop for RowFuture {
             counters,
         } = self;
         counters.future_drops.add_one();
+        counters.note(Event::Future);
         drop(counters);
     }
 }
@@ -83,23 +85,23 @@ impl Yields for RowFuture {
     type Output = Output;
 }
 
-impl<'x, R: Wait + Drop + Copy> Future<RowWaker<'x, R>> for RowFuture {
+impl<'x, 'm, R: Wait + Drop + Copy> Future<RowWaker<'x, 'm, R>> for RowFuture {
     ghost use Rattle.rows_fixtures.specs.Behaviour.{IsPolled};
 
     ghost polled = { λ old _ answer new. IsPolled old.behaviour answer new.behaviour };
 
-    fn poll(&mut self, waker: &RowWaker<'x, R>) -> Poll<Output> {
+    fn poll(&mut self, waker: &RowWaker<'x, 'm, R>) -> Poll<Output> {
         self.counters.begin_poll();
         let answer = self.answer();
         let surroundings = waker.around();
         if self.behaviour.keeps_waker() {
             surroundings.keep(waker);
         }
-        if self.behaviour.drops_task() {
-            drop(surroundings.take_task());
-        }
         if self.behaviour.yields() && matches!(answer, Poll::Pending) {
             waker.wake_by_ref();
+        }
+        if self.behaviour.drops_task() {
+            drop(surroundings.take_task());
         }
         surroundings.rendezvous.meet();
         self.counters.end_poll();
@@ -124,14 +126,15 @@ impl<'x, R: Wait + Drop + Copy> Future<PriorityWaker<'x, R>> for RowFuture {
     }
 }
 
-impl<R: Wait + Drop + Copy, A: Wake> Future<TaskWaker<R, RowFuture, Scheduler, (), A, ()>>
-    for RowFuture {
+impl<R: Wait + Drop + Copy, M: Drop, A: Wake, B: Allocator + Copy> Future<
+    TaskWaker<R, RowFuture, Scheduler, M, A, (), B>,
+> for RowFuture {
     ghost use Rattle.rows_fixtures.specs.Behaviour.{IsPolled};
 
     ghost polled = { λ old _ answer new. IsPolled old.behaviour answer new.behaviour };
 
     // Where a waker carries no surroundings, there are no stores and no meeting.
-    fn poll(&mut self, _waker: &TaskWaker<R, RowFuture, Scheduler, (), A, ()>) -> Poll<Output> {
+    fn poll(&mut self, _waker: &TaskWaker<R, RowFuture, Scheduler, M, A, (), B>) -> Poll<Output> {
         self.answer_alone()
     }
 }

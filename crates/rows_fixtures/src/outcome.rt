@@ -1,5 +1,5 @@
 //! How a row ended.
-ghost use Rattle.std.specs.Prelude.{◌≡◌, ◌↔◌, IsTrue, false};
+ghost use Rattle.std.specs.Prelude.{◌≡◌, ◌↔◌, IsTrue};
 
 use crate::counters::Counts;
 use std::alloc::AllocError;
@@ -47,16 +47,6 @@ impl Outcome {
         Outcome {
             counts,
             agrees: agrees && counts == expected,
-        }
-    }
-
-    /// The end of a row that could not go on: it does not agree.
-    pub fn given_up(counts: Counts) -> Outcome
-        ensures { result.agrees ≡ false }
-    {
-        Outcome {
-            counts,
-            agrees: false,
         }
     }
 }

@@ -2,11 +2,11 @@
 ghost use Rattle.std.specs.Prelude.{◌≡◌, ◌↔◌, IsTrue};
 ghost use Rattle.rows_fixtures.specs.Polled.{IsReadyWith, IsSomeWith};
 
-use crate::counters::Counters;
+use crate::counters::{Counters, Event};
 use std::sync::Arc;
 use task_core::TaskPoll;
 
-/// The output of a future of the rows: a number, whose drop is counted.
+/// The output of a future of the rows: a number, whose drop is counted, and comes to a meeting where that is armed.
 pub struct Output {
     /// The number.
     pub number: u64,
@@ -29,6 +29,8 @@ impl Drop for Output {
             counters,
         } = self;
         counters.output_drops.add_one();
+        counters.note(Event::Output);
+        counters.output_meeting.meet();
         drop(counters);
     }
 }

@@ -15,7 +15,7 @@ use Rattle.rows_fixtures.specs.declared.row.Row.TheVariants.{PriorityFull}
 -- these polls, schedule calls, drops of the future and drops of the schedule value
 abbrev pub counts : ℕ → ℕ → ℕ → ℕ → Counts
 counts polls schedules futures schedulers =
-    record { polls = polls; schedules = schedules; future_drops = futures; scheduler_drops = schedulers }
+    record { 0 = polls; 1 = schedules; 2 = futures; 3 = schedulers }
 
 -- the numbers that the table of the rows has for a row
 abbrev pub counts_of : Row → Counts
@@ -62,6 +62,6 @@ counts_of PriorityFull = counts 1 2 2 0
 abbrev pub AgreesAt : Counts → Outcome → Type 0
 AgreesAt expected outcome = IsTrue outcome.agrees → outcome.counts ≡ expected
 
--- a row that agrees has the counts that the table of the rows has for it
+-- a row that agrees ends with the numbers that the table of the rows has for it
 abbrev pub AgreesAs : Row → Outcome → Type 0
 AgreesAs row = AgreesAt (counts_of row)

@@ -35,7 +35,7 @@ const NOTHING: Done = Done {
 
 // Does what is left to do, in order: an order to queue is counted.
 fn act<R: Wait + Drop + Copy>(
-    fixture: &Fixture<R>,
+    fixture: &Fixture<'_, R>,
     settled: Settled<RowFuture, Output, Flag>,
 ) -> Done {
     let Settled {
@@ -55,7 +55,7 @@ fn act<R: Wait + Drop + Copy>(
     drop(future);
     drop(output);
     if queue.is_some() {
-        fixture.count_order();
+        fixture.counters.schedules.add_one();
     }
     if let Some(awaiter) = wake {
         awaiter.wake();
@@ -65,7 +65,10 @@ fn act<R: Wait + Drop + Copy>(
 }
 
 // Whether the task is polled and woken meanwhile, and is to be queued again.
-fn is_woken_while_running<R: Wait + Drop + Copy>(fixture: &Fixture<R>, task: &mut Local) -> bool {
+fn is_woken_while_running<R: Wait + Drop + Copy>(
+    fixture: &Fixture<'_, R>,
+    task: &mut Local,
+) -> bool {
     let Start::Poll(mut future) = task.start() else {
         return false;
     };
@@ -85,12 +88,12 @@ fn is_woken_while_running<R: Wait + Drop + Copy>(fixture: &Fixture<R>, task: &mu
 }
 
 // Whether a cancel closes the task, with nothing to queue or to wake.
-fn is_cancelled<R: Wait + Drop + Copy>(fixture: &Fixture<R>, task: &mut Local) -> bool {
+fn is_cancelled<R: Wait + Drop + Copy>(fixture: &Fixture<'_, R>, task: &mut Local) -> bool {
     task.has_task() && act(fixture, task.cancel()) == NOTHING && task.is_finished()
 }
 
 // Whether the task ends unpolled, and is not emptied.
-fn ends_unpolled<R: Wait + Drop + Copy>(fixture: &Fixture<R>, task: &mut Local) -> bool {
+fn ends_unpolled<R: Wait + Drop + Copy>(fixture: &Fixture<'_, R>, task: &mut Local) -> bool {
     let Start::Ended(settled) = task.start() else {
         return false;
     };
@@ -102,7 +105,11 @@ fn ends_unpolled<R: Wait + Drop + Copy>(fixture: &Fixture<R>, task: &mut Local) 
 }
 
 // Whether a poll of the Task answers ready without an output.
-fn is_closed<R: Wait + Drop + Copy>(fixture: &Fixture<R>, task: &mut Local, flag: &Flag) -> bool {
+fn is_closed<R: Wait + Drop + Copy>(
+    fixture: &Fixture<'_, R>,
+    task: &mut Local,
+    flag: &Flag,
+) -> bool {
     if !task.has_task() {
         return false;
     }
@@ -111,7 +118,7 @@ fn is_closed<R: Wait + Drop + Copy>(fixture: &Fixture<R>, task: &mut Local, flag
 }
 
 // Whether a detach leaves nobody.
-fn is_emptied<R: Wait + Drop + Copy>(fixture: &Fixture<R>, task: &mut Local) -> bool {
+fn is_emptied<R: Wait + Drop + Copy>(fixture: &Fixture<'_, R>, task: &mut Local) -> bool {
     let emptied = Done {
         emptied: true,
         ..NOTHING
@@ -121,7 +128,7 @@ fn is_emptied<R: Wait + Drop + Copy>(fixture: &Fixture<R>, task: &mut Local) -> 
 
 /// A task of one thread is woken while its future is polled, cancelled while it is queued again, and ends without a second poll.
 pub fn local<R: Wait + Drop + Copy>(
-    fixture: &Fixture<R>,
+    fixture: &Fixture<'_, R>,
     counts: Counts,
 ) -> Result<Outcome, AllocError>
     ensures { IfOk result (AgreesAt counts) }

@@ -4,13 +4,9 @@
 //! The page is README.md, beside the code.
 #![tactic(auto)]
 
-mod dropping;
-mod hands;
 mod local;
 mod priority;
-mod script;
 mod scripts;
-mod step;
 mod table;
 
 use rows_fixtures::report::{answer, refuse};

@@ -97,7 +97,7 @@ pub const PRIORITY_FULL: &Order = &Order {
 
 /// Spawns and schedules the tasks, and takes the turns: the row's end, which agrees where each was as it says.
 pub fn play<R: Wait + Drop + Copy>(
-    fixture: &Fixture<R>,
+    fixture: &Fixture<'_, R>,
     alloc: Global,
     order: &Order,
     counts: Counts,
@@ -108,9 +108,9 @@ pub fn play<R: Wait + Drop + Copy>(
     play_by(fixture, alloc, &queue, order, counts)
 }
 
-// The same with that queue.
+// Plays a row over the tasks with this queue.
 fn play_by<R: Wait + Drop + Copy>(
-    fixture: &Fixture<R>,
+    fixture: &Fixture<'_, R>,
     alloc: Global,
     queue: &PriorityQueue<R>,
     order: &Order,
@@ -132,7 +132,7 @@ fn play_by<R: Wait + Drop + Copy>(
 
 // Spawns such a task, schedules its Runnable and keeps its Task.
 fn schedule<'x, R: Wait + Drop + Copy>(
-    fixture: &Fixture<R>,
+    fixture: &Fixture<'_, R>,
     queue: &'x PriorityQueue<R>,
     tasks: &mut Vec<PriorityTask<'x, R>>,
     priority: u64,
@@ -147,7 +147,7 @@ fn schedule<'x, R: Wait + Drop + Copy>(
 
 // Whether a turn is as it says.
 fn takes<R: Wait + Drop + Copy>(
-    fixture: &Fixture<R>,
+    fixture: &Fixture<'_, R>,
     queue: &PriorityQueue<R>,
     tasks: &mut Vec<PriorityTask<'_, R>>,
     flag: &Flag,
@@ -157,7 +157,7 @@ fn takes<R: Wait + Drop + Copy>(
         Runs(priority, answer) => queue.run_next() == Some((priority, answer)),
         Empty => queue.run_next().is_none(),
         Scheduled(calls, woken) => {
-            fixture.counts().schedules == calls && fixture.woken_calls() == woken
+            fixture.counts().1 == calls && fixture.counters.woken_calls.get() == woken
         }
         Gives(place, number) => gives(tasks.get_mut(place), flag, number),
         Closed(place) => is_closed(tasks.get_mut(place), flag),

@@ -8,8 +8,6 @@ mod awaiting;
 #[cfg(test)]
 mod calls;
 #[cfg(test)]
-mod heap_tests;
-#[cfg(test)]
 mod priority_tests;
 #[cfg(test)]
 mod races;
@@ -21,5 +19,3 @@ mod shared_tests;
 mod slot_tests;
 #[cfg(test)]
 mod storm_tests;
-#[cfg(test)]
-mod tray;

@@ -5,6 +5,7 @@ use crate::calls;
 use executor_parts::PriorityHeap;
 use rows_fixtures::behaviour::Behaviour;
 use rows_fixtures::counters::Counts;
+use rows_fixtures::counting::Counting;
 use rows_fixtures::executor::{PriorityQueue, PriorityRunnable, PriorityScheduler, PriorityTask};
 use rows_fixtures::fixture::Fixture;
 use rows_fixtures::flag::Flag;
@@ -19,13 +20,16 @@ type Heap<R> = PriorityHeap<R, RowFuture, PriorityScheduler, Flag>;
 const TOO_MUCH: usize = usize::MAX;
 
 // An empty queue with that room. Stops where there is no memory.
-fn queue_of<R: Wait + Abort + Drop + Copy>(fixture: &Fixture<R>, room: usize) -> PriorityQueue<R> {
+fn queue_of<R: Wait + Abort + Drop + Copy>(
+    fixture: &Fixture<'_, R>,
+    room: usize,
+) -> PriorityQueue<R> {
     fixture.priorities(room).expect(&fixture.rt, "refused")
 }
 
 // Spawns a task of that priority. Stops where there is no memory.
 fn spawn<'x, R: Wait + Abort + Drop + Copy>(
-    fixture: &Fixture<R>,
+    fixture: &Fixture<'_, R>,
     queue: &'x PriorityQueue<R>,
     priority: u64,
 ) -> (PriorityRunnable<'x, R>, PriorityTask<'x, R>) {
@@ -56,7 +60,7 @@ fn new_is_refused_for_memory(rt: HostRuntime) {
 }
 
 // Schedules the Runnables of two tasks and detaches their Tasks, and drops the queue: what was counted before its drop.
-fn leave_in_queue<R: Wait + Abort + Drop + Copy>(fixture: &Fixture<R>) -> Counts {
+fn leave_in_queue<R: Wait + Abort + Drop + Copy>(fixture: &Fixture<'_, R>) -> Counts {
     let queue = queue_of(fixture, 2);
     let (first_runnable, first) = spawn(fixture, &queue, 1);
     let (second_runnable, second) = spawn(fixture, &queue, 2);
@@ -69,7 +73,8 @@ fn leave_in_queue<R: Wait + Abort + Drop + Copy>(fixture: &Fixture<R>) -> Counts
 
 #[test]
 fn what_is_left_in_the_queue_is_cancelled_with_it(rt: HostRuntime) {
-    let fixture = calls::fixture(rt, rt.alloc());
+    let counting = Counting::new(rt.alloc());
+    let fixture = calls::fixture(rt, rt.alloc(), &counting);
     let queued = leave_in_queue(&fixture);
-    assert!(rt; [queued, fixture.counts()] == [Counts::new(0, 2, 0, 0), Counts::new(0, 2, 2, 2)]);
+    assert!(rt; [queued, fixture.counts()] == [Counts(0, 2, 0, 0), Counts(0, 2, 2, 2)]);
 }

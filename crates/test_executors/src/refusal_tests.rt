@@ -1,4 +1,4 @@
-//! Tests of what is refused: a spawn its one request for memory, and wakers at the limit of references.
+//! Tests of a spawn that is refused its one request for memory.
 //! Of what is only tested (docs/PROOFS.md): Memory and limits.
 ghost use Rattle.std.specs.Prelude.{⊤};
 
@@ -21,9 +21,6 @@ use std::sync::{Arc, Wait};
 
 // A schedule value has so many numbers, by which it shows that it is whole.
 const WIDTH: usize = 64;
-
-// Room for a task, and more.
-const HEAP: usize = 4096;
 
 // The schedule value: it counts, and drops each Runnable.
 #[derive(Drop)]
@@ -98,15 +95,6 @@ type CountedRunnable<'x, 'heap, R, M> = WideRunnable<'x, R, M, &'heap Counting<&
 
 type CountedTask<'x, 'heap, R, M> = WideTask<'x, R, M, &'heap Counting<&'heap LocalHeap>>;
 
-// The handles of one in a heap, without metadata.
-type HeapRunnable<'x, 'heap, R> = WideRunnable<'x, R, (), &'heap LocalHeap>;
-
-type HeapTask<'x, 'heap, R> = WideTask<'x, R, (), &'heap LocalHeap>;
-
-type HeapWaker<'x, 'heap, R> = WideWaker<'x, R, (), &'heap LocalHeap>;
-
-type HeapHandles<'x, 'heap, R> = (HeapRunnable<'x, 'heap, R>, HeapTask<'x, 'heap, R>);
-
 // Ends a task that was spawned.
 fn discard_both<R: Wait + Drop + Copy, M: Drop>(
     runnable: CountedRunnable<'_, '_, R, M>,
@@ -124,7 +112,7 @@ fn succeeds<R: Wait + Abort + Drop + Copy>(
     schedule: WideScheduler,
 ) -> bool {
     let flag = calls::flag(rt, alloc, 1);
-    let heap = calls::heap(rt, alloc, HEAP);
+    let heap = calls::heap(rt, alloc, calls::HEAP);
     let refused_clones = Counter::new();
     let spawned = spawn(rt, &heap, future, schedule, &refused_clones);
     let (runnable, mut task) = spawned.expect(&rt, "refused");
@@ -171,9 +159,9 @@ fn spawn_in<R: Wait + Abort + Drop + Copy>(rt: R, alloc: Global, blocks: u16) ->
         }
         Err(refused) => {
             let requests = counting.allocations();
-            let is_freed = heap.used() == 0 && counters.counts() == Counts::new(0, 0, 0, 0);
+            let is_freed = heap.used() == 0 && counters.counts() == Counts(0, 0, 0, 0);
             let is_used = use_refused(rt, alloc, refused);
-            let is_over = counters.counts() == Counts::new(1, 0, 1, 1);
+            let is_over = counters.counts() == Counts(1, 0, 1, 1);
             let right = is_freed && is_used && is_over && counters.output_drops.get() == 1;
             Err(requests == 1 && right)
         }
@@ -201,10 +189,10 @@ fn build_in<R: Wait + Abort + Drop + Copy>(rt: R, alloc: Global, blocks: u16) ->
         }
         Err(refused) => {
             let requests = counting.allocations();
-            let is_freed = heap.used() == 0 && counters.counts() == Counts::new(0, 0, 0, 0);
+            let is_freed = heap.used() == 0 && counters.counts() == Counts(0, 0, 0, 0);
             let is_uncalled = calls.get() == 0;
             let is_used = use_builder(rt, alloc, refused);
-            let is_over = calls.get() == 1 && counters.counts() == Counts::new(0, 0, 1, 1);
+            let is_over = calls.get() == 1 && counters.counts() == Counts(0, 0, 1, 1);
             Err(requests == 1 && is_freed && is_uncalled && is_used && is_over)
         }
     }
@@ -234,7 +222,7 @@ fn use_builder<R: Wait + Abort + Drop + Copy, G: FnOnce(&u64) -> WideFuture>(
     } = refused;
     let is_shown = is_shown(alloc, &builder);
     let is_whole = schedule.numbers == [3; WIDTH];
-    let heap = calls::heap(rt, alloc, HEAP);
+    let heap = calls::heap(rt, alloc, calls::HEAP);
     let around = Counter::new();
     let Ok((runnable, task)) = builder.spawn(rt, &heap, maker, schedule, &around) else {
         return false;
@@ -262,65 +250,4 @@ fn a_refused_builder_hands_everything_back(rt: HostRuntime) {
     let refused = build_in(rt, rt.alloc(), FEW);
     let spawned = build_in(rt, rt.alloc(), MANY);
     assert!(rt; [refused, spawned] == [Err(true), Ok(true)]);
-}
-
-// Spawns a task that may have two references. Stops where it is refused.
-fn spawn_limited<'x, 'heap, R: Wait + Abort + Drop + Copy>(
-    rt: R,
-    heap: &'heap LocalHeap,
-    around: &'x Counter,
-    counters: &Arc<Counters>,
-) -> HeapHandles<'x, 'heap, R> {
-    let future = WideFuture::new(rt, Behaviour::Pending, counters);
-    let schedule = WideScheduler::new(rt, counters);
-    let builder = Builder::new().reference_limit(2);
-    builder
-        .spawn(rt, heap, |_| future, schedule, around)
-        .expect(&rt, "refused")
-}
-
-// Whether a waker is refused a clone. One that is given is dropped.
-fn refuses_clone<R: Wait + Drop + Copy>(waker: &HeapWaker<'_, '_, R>) -> bool {
-    waker.try_clone().is_err()
-}
-
-// Asks a Runnable, a waker and a clone for wakers above the limit: whether all were refused, before the run and after it, and one in
-// the run, as the surroundings count, and memory was held when the wakers were gone; and what was counted at the end of the run.
-fn ask_at_limit<R: Wait + Abort + Drop + Copy>(
-    rt: R,
-    heap: &LocalHeap,
-    counters: &Arc<Counters>,
-) -> (bool, Counts) {
-    let around = Counter::new();
-    let (runnable, task) = spawn_limited(rt, heap, &around, counters);
-    let Ok(waker) = runnable.waker() else {
-        panic!(rt; "a waker was refused");
-    };
-    let refused = runnable.waker().is_err();
-    let clone_refused = refuses_clone(&waker);
-    runnable.run();
-    let refused_polls = around.get();
-    let polled = counters.counts();
-    let Ok(clone) = waker.try_clone() else {
-        panic!(rt; "a clone of a waker was refused");
-    };
-    let refused_later = refuses_clone(&waker);
-    let clone_refused_later = refuses_clone(&clone);
-    drop(waker);
-    drop(clone);
-    let held = heap.used() != 0;
-    drop(task);
-    let all_refused = refused && clone_refused && refused_later && clone_refused_later;
-    (all_refused && refused_polls == 1 && held, polled)
-}
-
-// At a limit of two references: the waker of a Runnable, a clone of a waker, and in the run a clone of the waker that is
-// lent are refused while there is a waker, and no share of the cell stays behind.
-#[test]
-fn a_refused_waker_keeps_no_memory(rt: HostRuntime) {
-    let counters = calls::counters(rt, rt.alloc());
-    let heap = calls::heap(rt, rt.alloc(), HEAP);
-    let (right, polled) = ask_at_limit(rt, &heap, &counters);
-    let ended = heap.used() == 0 && counters.counts() == Counts::new(1, 1, 1, 1);
-    assert!(rt; right && ended && polled == Counts::new(1, 0, 0, 0));
 }

@@ -4,9 +4,10 @@
 use crate::calls;
 use rows_fixtures::behaviour::Behaviour;
 use rows_fixtures::counters::{Counter, Counts};
+use rows_fixtures::counting::Counting;
 use rows_fixtures::fixture::Fixture;
-use rows_fixtures::surroundings::{RowRunnable, RowWaker};
-use std::alloc::Global;
+use rows_fixtures::surroundings::{RowWaker, SentRunnable};
+use std::alloc::{AllocError, Global};
 use std::process::Abort;
 use std::sync::Wait;
 use std::thread;
@@ -19,17 +20,25 @@ const WAKES: u32 = 1_000;
 
 const TURNS: u32 = 10_000_000;
 
-// What each of the four threads does.
-fn wake_often<R: Wait + Drop + Copy>(waker: RowWaker<'_, R>, ended: &Counter) {
-    for _ in 0..WAKES {
-        waker.wake_by_ref();
+// A waker that is for another thread.
+#[derive(Drop)]
+struct SentWaker<'x, 'm, R: Wait + Drop + Copy> {
+    waker: RowWaker<'x, 'm, R>,
+}
+
+impl<'x, 'm, R: Wait + Drop + Copy> SentWaker<'x, 'm, R> {
+    // What each of the four threads does.
+    fn wake_often(self, ended: &Counter) {
+        for _ in 0..WAKES {
+            self.waker.wake_by_ref();
+        }
+        drop(self);
+        ended.add_one();
     }
-    drop(waker);
-    ended.add_one();
 }
 
 // Runs whatever is queued, until the four threads have ended and the queue is empty. False where that was not reached.
-fn run_to_the_end<R: Wait + Drop + Copy>(fixture: &Fixture<R>, ended: &Counter) -> bool {
+fn run_to_the_end<R: Wait + Drop + Copy>(fixture: &Fixture<'_, R>, ended: &Counter) -> bool {
     for _ in 0..TURNS {
         let over = ended.get() == THREADS;
         if fixture.surroundings.run_next().is_none() && over {
@@ -40,23 +49,31 @@ fn run_to_the_end<R: Wait + Drop + Copy>(fixture: &Fixture<R>, ended: &Counter) 
     false
 }
 
+// A waker of its task, for another thread.
+fn sent_waker<'x, 'm, R: Wait + Drop + Copy>(
+    sent: &SentRunnable<'x, 'm, R>,
+) -> Result<SentWaker<'x, 'm, R>, AllocError> {
+    let waker = sent.runnable.waker()?;
+    Ok(SentWaker { waker })
+}
+
 // The first run, and those that four threads wake the task for: whether all threads came and the last run was made.
-fn storm<'x, R: Wait + Threads + Drop + Copy + Send + Sync>(
+fn storm<'x, 'm, R: Wait + Threads + Drop + Copy + Send + Sync>(
     rt: &R,
-    fixture: &'x Fixture<R>,
+    fixture: &'x Fixture<'m, R>,
     ended: &Counter,
-    runnable: RowRunnable<'x, R>,
+    sent: SentRunnable<'x, 'm, R>,
 ) -> bool {
     thread::scope(thread::scope_env(), rt, |scope| {
         for _ in 0..THREADS {
-            let Ok(waker) = runnable.waker() else {
+            let Ok(waker) = sent_waker(&sent) else {
                 return false;
             };
-            if scope.spawn(move || wake_often(waker, ended)).is_err() {
+            if scope.spawn(move || waker.wake_often(ended)).is_err() {
                 return false;
             }
         }
-        runnable.run();
+        sent.run();
         run_to_the_end(fixture, ended)
     })
 }
@@ -67,14 +84,17 @@ fn wake_by_four<R: Wait + Threads + Abort + Drop + Copy + Send + Sync>(
     rt: R,
     alloc: Global,
 ) -> (bool, [Counts; 2]) {
-    let fixture = calls::fixture(rt, alloc);
-    let (runnable, task) = fixture.spawn(Behaviour::Pending).expect(&rt, "refused");
+    let counting = Counting::new(alloc);
+    let fixture = calls::fixture(rt, alloc, &counting);
+    let (runnable, task) = fixture
+        .spawn(Behaviour::Pending, u64::MAX)
+        .expect(&rt, "refused");
     let ended = Counter::new();
-    let all_ended = storm(&rt, &fixture, &ended, runnable);
+    let all_ended = storm(&rt, &fixture, &ended, SentRunnable { runnable });
     let idle = fixture.counts();
     drop(task);
     let ran = fixture.surroundings.run_next();
-    let right = all_ended && ran == Some(false) && fixture.overlaps() == 0;
+    let right = all_ended && ran == Some(false) && fixture.counters.overlaps.get() == 0;
     (right, [idle, fixture.counts()])
 }
 
@@ -82,13 +102,13 @@ fn wake_by_four<R: Wait + Threads + Abort + Drop + Copy + Send + Sync>(
 #[test]
 fn four_threads_wake_one_task(rt: HostRuntime) {
     let (right, [idle, last]) = wake_by_four(rt, rt.alloc());
-    let polls = idle.polls;
+    let polls = idle.0;
     assert!(rt; right);
     assert!(rt;
         [idle, last]
             == [
-                Counts::new(polls, polls.wrapping_sub(1), 0, 0),
-                Counts::new(polls, polls, 1, 1)
+                Counts(polls, polls.wrapping_sub(1), 0, 0),
+                Counts(polls, polls, 1, 1)
             ]
     );
 }

@@ -1,17 +1,13 @@
-//! The handles of a task: what no worked row makes, of the builder, and of Tasks and wakers.
+//! The handles of a task: what no worked row makes, of the builder, and of Tasks and wakers. Most tests are scripts.
 
 mod awaiter_tests;
 mod builder_tests;
-pub mod calls;
+mod check;
 mod ending_tests;
 mod lent_tests;
 mod limit_tests;
-mod metadata_tests;
+mod memory_tests;
 mod poll_tests;
-mod registration_tests;
 mod size_tests;
 mod task_tests;
-mod wake_tests;
 mod waker_tests;
-mod watched;
-mod witness_tests;

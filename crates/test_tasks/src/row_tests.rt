@@ -16,9 +16,9 @@ fn status_of<W: io::Write, E: io::Write>(
     err: &mut E,
 ) -> Result<u8, AllocError> {
     let run = |row: Row| -> Result<Outcome, Missing> {
-        let counts = Counts::new(1, 2, 3, 4);
+        let counts = Counts(1, 2, 3, 4);
         match row {
-            Row::WakeDuringRun => Ok(Outcome::given_up(counts)),
+            Row::WakeDuringRun => Ok(Outcome::of(counts, false, counts)),
             Row::CancelDuringRun => Err(Missing::Memory),
             Row::WakeAndCancel => Err(Missing::Thread),
             _ => Ok(Outcome::of(counts, true, counts)),
@@ -86,7 +86,7 @@ fn is_answered(
     told: &str,
 ) -> Result<bool, AllocError> {
     let run = |_row: Row| -> Result<Outcome, Missing> {
-        let counts = Counts::new(1, 2, 3, 4);
+        let counts = Counts(1, 2, 3, 4);
         Ok(Outcome::of(counts, true, counts))
     };
     let mut words = Vec::new(alloc);

@@ -1,10 +1,8 @@
 //! Aborts of the members of a group by its handles: while the owner sleeps, of a member that came out before, several of one member, after a detach, and many
 //! from another thread while members come and go.
 use super::came_out::{CameOut, abort_handle_of, group_of, next_of};
-use super::line::Errand::{Answer, GiveWay, Stay};
 use super::line::{Errand, Line, LineGroup};
-use super::script::Step::{Answered, CloneHandle, DetachAll, DropGroup, Look, Next, Run, Spawn};
-use super::script::{Script, Step, play};
+use super::script::{Script, play};
 use async_task::TaskClosed;
 use executor_parts::AbortHandle;
 use std::alloc::Global;
@@ -81,7 +79,7 @@ fn abort_while_asleep<R: Wait + Abort + Threads + Drop + Copy + Send + Sync>(
 ) -> CameOut {
     let line = Line::new(rt, alloc, 1);
     let mut group = group_of(&line, 1);
-    let handle = spawn_abortable(&line, &mut group, Stay);
+    let handle = spawn_abortable(&line, &mut group, Errand::Stay);
     line.run();
     wait_and_abort(&line, &mut group, handle)
 }
@@ -93,73 +91,28 @@ fn an_abort_wakes_the_owner_that_sleeps(rt: HostRuntime) {
 }
 
 const SCRIPTS: [Script; 4] = [
-    Script {
-        name: "an abort of a member that came out is nothing to a later one of its number",
-        room: 1,
-        steps: &[
-            Spawn(Answer(44), Some(0)),
-            Run,
-            Next(Some((0, Ok(44)))),
-            Spawn(GiveWay(45), Some(0)),
-            Step::Abort(0),
-            Look(None),
-            Run,
-            Next(Some((0, Ok(45)))),
-        ],
-    },
-    Script {
-        name: "an abort of a member that came out takes no other abort away",
-        room: 1,
-        steps: &[
-            Spawn(Answer(44), Some(0)),
-            Run,
-            Next(Some((0, Ok(44)))),
-            Spawn(GiveWay(45), Some(0)),
-            Step::Abort(1),
-            Step::Abort(0),
-            Look(None),
-            Run,
-            Next(Some((0, Err(TaskClosed)))),
-        ],
-    },
-    // Two aborts before the future of the member is gone, and one after that.
-    Script {
-        name: "further aborts of a member are nothing",
-        room: 2,
-        steps: &[
-            Spawn(Stay, Some(0)),
-            CloneHandle(0),
-            Run,
-            Step::Abort(0),
-            Step::Abort(1),
-            Look(None),
-            Run,
-            Step::Abort(0),
-            Next(Some((0, Err(TaskClosed)))),
-            Spawn(Answer(46), Some(0)),
-            Run,
-            Next(Some((0, Ok(46)))),
-            Next(None),
-        ],
-    },
-    Script {
-        name: "an abort of a member that has ended or was let go does nothing, also without its group",
-        room: 1,
-        steps: &[
-            Spawn(Answer(47), Some(0)),
-            Run,
-            Step::Abort(0),
-            Next(Some((0, Ok(47)))),
-            Spawn(GiveWay(48), Some(0)),
-            DetachAll,
-            Step::Abort(1),
-            Look(None),
-            Run,
-            DropGroup(true),
-            Step::Abort(1),
-            Answered(2),
-        ],
-    },
+    // An abort of a member that came out is nothing to a later one of its number.
+    (
+        1,
+        "spawn 0 answer 44; run; next 0 gives 44; spawn 0 give_way 45; abort 0; look nothing; run; next 0 gives 45",
+    ),
+    // An abort of a member that came out takes no other abort away.
+    (
+        1,
+        "spawn 0 answer 44; run; next 0 gives 44; spawn 0 give_way 45; abort 1; abort 0; look nothing; run; next 0 closed",
+    ),
+    // Further aborts of a member are nothing: two before its future is gone, and one after that.
+    (
+        2,
+        "spawn 0 stay; clone_handle 0; run; abort 0; abort 1; look nothing; run; abort 0; next 0 closed; \
+         spawn 0 answer 46; run; next 0 gives 46; next nothing",
+    ),
+    // An abort of a member that has ended or was let go does nothing, also without its group.
+    (
+        1,
+        "spawn 0 answer 47; run; abort 0; next 0 gives 47; spawn 0 give_way 48; detach_all; abort 1; look nothing; run; \
+         drop_empty; abort 1; answered 2",
+    ),
 ];
 
 #[test]

@@ -1,13 +1,13 @@
 //! Tasks that the kit's `block_on`, `join` and `select` wait for, a bridge that is dropped, and refused memory. Of what is only tested: the page of `executor_parts::kit`.
 ghost use Rattle.std.specs.Prelude.{⊤};
 
-use super::number::Nowhere;
-use crate::tray::{HEAP, fill};
+use crate::calls::{HEAP, fill};
 use async_task::{Future, Poll, Runnable, Task, Wake, Yields, spawn};
 use executor_parts::kit::{AwaitError, Awaits, KitAwaiter};
 use futures::executor::block_on;
 use futures::future::{Either, join, ready, select};
 use linked_list_allocator::LocalHeap;
+use rows_fixtures::surroundings::Nowhere;
 use std::alloc::{AllocGlobal, Global};
 use std::process::Abort;
 use std::random::RandomSource;

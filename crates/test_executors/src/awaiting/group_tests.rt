@@ -1,13 +1,7 @@
 //! Groups: the order in which members come out, those that ended before their push, a group that is full, the ways to let all go, and what waits after them.
 use super::came_out::{CameOut, group_of};
-use super::line::Errand::{Answer, GiveWay, Stay};
-use super::line::{Line, LineGroup};
-use super::script::Step::{
-    AbortAll, Answered, CancelAll, CancelKept, DetachAll, DropGroup, KeepId, Look, Next, Push,
-    PushClosed, PushEnded, Run, Spawn,
-};
+use super::line::{Errand, Line, LineGroup};
 use super::script::{Script, play};
-use async_task::TaskClosed;
 use executor_parts::{NextUntilError, TaskGroup, left_until};
 use std::alloc::{AllocError, Global};
 use std::process::Abort;
@@ -15,138 +9,55 @@ use std::sync::Wait;
 use std::time::{Clock, Duration, Instant};
 
 const SCRIPTS: [Script; 10] = [
-    Script {
-        name: "members come out in the order in which they end",
-        room: 3,
-        steps: &[
-            Push(GiveWay(10), true),
-            Push(Answer(11), true),
-            Push(Answer(12), true),
-            Run,
-            Next(Some((1, Ok(11)))),
-            Next(Some((2, Ok(12)))),
-            Next(Some((0, Ok(10)))),
-            Next(None),
-        ],
-    },
-    Script {
-        name: "tasks that ended before their push come out",
-        room: 2,
-        steps: &[
-            PushEnded(Answer(15)),
-            PushClosed(Answer(16)),
-            Next(Some((0, Ok(15)))),
-            Next(Some((1, Err(TaskClosed)))),
-            Next(None),
-        ],
-    },
-    Script {
-        name: "an abort of all cancels",
-        room: 2,
-        steps: &[
-            Push(GiveWay(20), true),
-            Push(GiveWay(20), true),
-            Push(Stay, false),
-            AbortAll,
-            Run,
-            Answered(0),
-        ],
-    },
-    Script {
-        name: "a detach lets all go on",
-        room: 2,
-        steps: &[
-            Push(GiveWay(20), true),
-            Push(GiveWay(20), true),
-            Push(Stay, false),
-            DetachAll,
-            Run,
-            Answered(2),
-        ],
-    },
-    // The number of the one that is left, 1, is not below how many are left.
-    Script {
-        name: "a detach lets a member of a high number go on",
-        room: 2,
-        steps: &[
-            Push(Answer(23), true),
-            Run,
-            Push(GiveWay(24), true),
-            Next(Some((0, Ok(23)))),
-            DetachAll,
-            Run,
-            Answered(2),
-        ],
-    },
-    Script {
-        name: "a drop cancels",
-        room: 2,
-        steps: &[
-            Push(GiveWay(20), true),
-            Push(GiveWay(20), true),
-            Push(Stay, false),
-            DropGroup(false),
-            Run,
-            Answered(0),
-        ],
-    },
-    // The number 1, of no member now, still waits before the number 0.
-    Script {
-        name: "one look passes over the number of no member",
-        room: 2,
-        steps: &[
-            Push(GiveWay(30), true),
-            Push(Answer(31), true),
-            Run,
-            AbortAll,
-            Push(Answer(32), true),
-            Run,
-            Look(Some((0, Ok(32)))),
-        ],
-    },
-    Script {
-        name: "a full group spawns nothing",
-        room: 1,
-        steps: &[
-            Spawn(GiveWay(13), Some(0)),
-            Spawn(Answer(14), None),
-            Run,
-            Next(Some((0, Ok(13)))),
-        ],
-    },
-    // Another member has its number.
-    Script {
-        name: "the id of a member that came out cancels nobody",
-        room: 1,
-        steps: &[
-            Push(Answer(44), true),
-            KeepId(0),
-            Run,
-            Next(Some((0, Ok(44)))),
-            Push(GiveWay(45), true),
-            CancelKept(false),
-            Run,
-            Next(Some((0, Ok(45)))),
-        ],
-    },
-    Script {
-        name: "members that are cancelled come out once their futures are gone",
-        room: 3,
-        steps: &[
-            Push(Stay, true),
-            Push(Answer(41), true),
-            Push(Stay, true),
-            Run,
-            KeepId(0),
-            CancelKept(true),
-            CancelAll,
-            Run,
-            Next(Some((1, Ok(41)))),
-            Next(Some((0, Err(TaskClosed)))),
-            Next(Some((2, Err(TaskClosed)))),
-            Next(None),
-        ],
-    },
+    // Members come out in the order in which they end.
+    (
+        3,
+        "push give_way 10; push answer 11; push answer 12; run; next 1 gives 11; next 2 gives 12; next 0 gives 10; next nothing",
+    ),
+    // Tasks that ended before their push come out.
+    (
+        2,
+        "push_ended answer 15; push_closed answer 16; next 0 gives 15; next 1 closed; next nothing",
+    ),
+    // An abort of all cancels, a detach lets all go on, and a drop cancels.
+    (
+        2,
+        "push give_way 20; push give_way 20; push_full stay; abort_all; run; answered 0",
+    ),
+    (
+        2,
+        "push give_way 20; push give_way 20; push_full stay; detach_all; run; answered 2",
+    ),
+    (
+        2,
+        "push give_way 20; push give_way 20; push_full stay; drop_group; run; answered 0",
+    ),
+    // A detach lets a member go on whose number, 1, is not below how many are left.
+    (
+        2,
+        "push answer 23; run; push give_way 24; next 0 gives 23; detach_all; run; answered 2",
+    ),
+    // One look passes over the number of no member: 1 still waits before 0.
+    (
+        2,
+        "push give_way 30; push answer 31; run; abort_all; push answer 32; run; look 0 gives 32",
+    ),
+    // A full group spawns nothing.
+    (
+        1,
+        "spawn 0 give_way 13; spawn_full answer 14; run; next 0 gives 13",
+    ),
+    // The id of a member that came out cancels nobody, though another one has its number.
+    (
+        1,
+        "push answer 44; keep_id 0; run; next 0 gives 44; push give_way 45; cancel_nobody; run; next 0 gives 45",
+    ),
+    // Members that are cancelled come out once their futures are gone.
+    (
+        3,
+        "push stay; push answer 41; push stay; run; keep_id 0; cancel_kept; cancel_all; run; \
+         next 1 gives 41; next 0 closed; next 2 closed; next nothing",
+    ),
 ];
 
 #[test]
@@ -185,7 +96,7 @@ fn wait_twice<R: Wait + Clock + Abort + Drop + Copy>(
 ) -> ([Result<CameOut, NextUntilError>; 2], bool) {
     let line = Line::new(rt, alloc, 1);
     let mut group = group_of(&line, 1);
-    line.spawn_in(&mut group, GiveWay(50));
+    line.spawn_in(&mut group, Errand::GiveWay(50));
     let begin = Instant::now(&rt).expect(&rt, "refused");
     let deadline = begin.checked_add(Duration::from_millis(20));
     let deadline = deadline.expect(&rt, "refused");

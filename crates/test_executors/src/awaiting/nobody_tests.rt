@@ -1,8 +1,9 @@
 //! The awaiter that wakes nobody.
 //! Of what is only tested (docs/PROOFS.md): Whose.
-use super::number::{Nowhere, Number};
+use super::number::Number;
 use async_task::{Task, TaskPoll, Wake, spawn};
 use executor_parts::Nobody;
+use rows_fixtures::surroundings::Nowhere;
 use std::alloc::Global;
 use std::process::Abort;
 use std::sync::Wait;

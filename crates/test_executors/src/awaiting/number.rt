@@ -1,7 +1,7 @@
-//! A future that answers its number, and a schedule value that drops each Runnable.
+//! A future that answers its number.
 ghost use Rattle.std.specs.Prelude.{⊤};
 
-use async_task::{Future, Poll, Schedule, ScheduleInfo, Yields};
+use async_task::{Future, Poll, Yields};
 
 /// A future that answers its number.
 #[derive(Drop)]
@@ -17,14 +17,4 @@ impl<W> Future<W> for Number {
     fn poll(&mut self, _waker: &W) -> Poll<u64> {
         Poll::Ready(self.0)
     }
-}
-
-/// A schedule value that drops each Runnable, which cancels its task.
-#[derive(Drop)]
-pub struct Nowhere;
-
-impl<N: Drop> Schedule<N> for Nowhere {
-    ghost scheduled = { λ _ _ _. ⊤ };
-
-    fn schedule(&self, _runnable: N, _info: ScheduleInfo) {}
 }

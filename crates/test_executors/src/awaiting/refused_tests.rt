@@ -1,9 +1,10 @@
 //! Members of a group whose polls are refused their awaiter.
 ghost use Rattle.std.specs.Prelude.{⊤};
 
-use super::number::{Nowhere, Number};
+use super::number::Number;
 use async_task::{Runnable, Wake, spawn};
 use executor_parts::{AwaiterRefused, Mailbox, Nobody, Posts, TaskGroup};
+use rows_fixtures::surroundings::Nowhere;
 use std::alloc::Global;
 use std::process::Abort;
 use std::sync::{Arc, Wait};

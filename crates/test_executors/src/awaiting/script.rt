@@ -1,60 +1,17 @@
-//! Scripts of calls on a group of a line: each step is a call, and states what that has to answer.
+//! Scripts of calls on a group of a line: a text of steps with `;` between them. A step is a call on the group or on its line, and states what that has to answer.
 use super::came_out::{CameOut, abort_handle_of, group_of, look, next_of};
 use super::line::{Errand, Line, LineGroup, LineTask};
+use async_task::TaskClosed;
 use executor_parts::{AbortHandle, MemberId};
+use rows_fixtures::words::Words;
 use std::alloc::Global;
 use std::mem;
 use std::process::Abort;
 use std::sync::Wait;
 use std::sync::atomic::Ordering;
 
-/// A call on a group or on its line, and what it has to answer.
-#[derive(Clone, Copy)]
-pub enum Step {
-    /// Spawns a task and pushes its Task: whether there was room.
-    Push(Errand, bool),
-    /// The same of a task that was run before, for which there was room.
-    PushEnded(Errand),
-    /// The same of a task whose Runnable was dropped before.
-    PushClosed(Errand),
-    /// Spawns a member: its number, or `None` where the group was full. The handle that aborts it is kept; handles are counted from 0.
-    Spawn(Errand, Option<usize>),
-    /// Keeps a clone of this handle, which has the id of the same member.
-    CloneHandle(usize),
-    /// Aborts by this handle.
-    Abort(usize),
-    /// Keeps the id of the member of this number.
-    KeepId(usize),
-    /// Cancels by the id that was kept: whether it referred to a member.
-    CancelKept(bool),
-    /// Cancels all members.
-    CancelAll,
-    /// Takes all members out, and cancels their tasks.
-    AbortAll,
-    /// Takes all members out, and lets their tasks go on.
-    DetachAll,
-    /// Drops the group: whether it was empty. A new one stands in its place.
-    DropGroup(bool),
-    /// Runs what is queued.
-    Run,
-    /// Waits for the next member, which is this one.
-    Next(CameOut),
-    /// Looks for a member that has ended, and finds this one.
-    Look(CameOut),
-    /// So many tasks have answered a number of their own.
-    Answered(u64),
-}
-
-/// Steps on an empty group.
-#[derive(Clone, Copy)]
-pub struct Script {
-    /// What they show.
-    pub name: &'static str,
-    /// The room of the group.
-    pub room: usize,
-    /// The steps.
-    pub steps: &'static [Step],
-}
+/// Steps on an empty group, and its room.
+pub type Script = (usize, &'static str);
 
 // A group, and what was kept of its members.
 #[derive(Drop)]
@@ -66,45 +23,63 @@ struct Player<'x, R: Wait + Drop + Copy> {
 }
 
 impl<'x, R: Wait + Abort + Drop + Copy> Player<'x, R> {
-    // Makes one call: whether it answered as stated.
-    fn take(&mut self, step: Step) -> bool {
-        match step {
-            Step::Push(errand, has_room) => self.push(errand) == has_room,
-            Step::PushEnded(errand) => self.push_ended(errand),
-            Step::PushClosed(errand) => self.push_closed(errand),
-            Step::Spawn(errand, number) => self.spawn(errand) == number,
-            Step::CloneHandle(handle) => self.clone_handle(handle),
-            Step::Abort(handle) => self.abort(handle),
-            Step::Run => {
-                self.line.run();
-                true
+    // Makes one call: whether it answered as stated, or `None` where there is no such call.
+    fn take(&mut self, name: &str, words: &mut Words<'_>) -> Option<bool> {
+        match name {
+            // Spawns a task and pushes its Task, for which there is room, or is none.
+            "push" => Some(self.push(errand_of(words)?)),
+            "push_full" => Some(!self.push(errand_of(words)?)),
+            // The same of a task that was run before, or whose Runnable was dropped before.
+            "push_ended" => Some(self.push_ended(errand_of(words)?)),
+            "push_closed" => Some(self.push_closed(errand_of(words)?)),
+            // Spawns a member of that number, or none, since the group is full. The handle that aborts it is kept; handles are counted from 0.
+            "spawn" => {
+                let number = number_of(words)?;
+                Some(self.spawn(errand_of(words)?) == Some(number))
             }
-            Step::Answered(number) => self.line.answered.load(Ordering::SeqCst) == number,
-            other => self.take_of_group(other),
+            "spawn_full" => Some(self.spawn(errand_of(words)?).is_none()),
+            // Keeps a clone of this handle, which has the id of the same member.
+            "clone_handle" => Some(self.clone_handle(number_of(words)?)),
+            "abort" => Some(self.abort(number_of(words)?)),
+            // Runs what is queued.
+            "run" => {
+                self.line.run();
+                Some(true)
+            }
+            // So many tasks have answered a number of their own.
+            "answered" => Some(self.line.answered.load(Ordering::SeqCst) == words.number()?),
+            _ => self.take_of_group(name, words),
         }
     }
 
     // Makes one call on the group alone.
-    fn take_of_group(&mut self, step: Step) -> bool {
-        match step {
-            Step::KeepId(number) => {
-                self.id = self.group.id(number);
-                self.id.is_some()
+    fn take_of_group(&mut self, name: &str, words: &mut Words<'_>) -> Option<bool> {
+        match name {
+            // Keeps the id of the member of this number.
+            "keep_id" => {
+                self.id = self.group.id(number_of(words)?);
+                Some(self.id.is_some())
             }
-            Step::CancelKept(refers) => self.cancel_kept(refers),
-            Step::CancelAll => self.group.cancel_all().is_ok(),
-            Step::AbortAll => {
+            // Cancels by the id that was kept, which refers to a member, or to none.
+            "cancel_kept" => self.cancel_kept(true),
+            "cancel_nobody" => self.cancel_kept(false),
+            "cancel_all" => Some(self.group.cancel_all().is_ok()),
+            // Takes all members out, and cancels their tasks, or lets them go on.
+            "abort_all" => {
                 self.group.abort_all();
-                self.group.is_empty()
+                Some(self.group.is_empty())
             }
-            Step::DetachAll => {
+            "detach_all" => {
                 self.group.detach_all();
-                self.group.is_empty()
+                Some(self.group.is_empty())
             }
-            Step::DropGroup(is_empty) => self.drop_group() == is_empty,
-            Step::Next(expected) => next_of(&mut self.group) == expected,
-            Step::Look(expected) => look(&mut self.group) == Ok(expected),
-            _ => false,
+            // Drops the group, which has members, or has none. A new one stands in its place.
+            "drop_group" => Some(!self.drop_group()),
+            "drop_empty" => Some(self.drop_group()),
+            // Waits for the next member, or looks for one that has ended.
+            "next" => Some(next_of(&mut self.group) == came_out(words)?),
+            "look" => Some(look(&mut self.group) == Ok(came_out(words)?)),
+            _ => None,
         }
     }
 
@@ -154,11 +129,8 @@ impl<'x, R: Wait + Abort + Drop + Copy> Player<'x, R> {
         true
     }
 
-    fn cancel_kept(&mut self, refers: bool) -> bool {
-        match self.id {
-            Some(id) => self.group.cancel(id) == Ok(refers),
-            None => false,
-        }
+    fn cancel_kept(&mut self, refers: bool) -> Option<bool> {
+        Some(self.group.cancel(self.id?) == Ok(refers))
     }
 
     fn drop_group(&mut self) -> bool {
@@ -175,23 +147,51 @@ fn push_task<'x, R: Wait + Drop + Copy>(
     group.push(task).is_ok()
 }
 
+fn number_of(words: &mut Words<'_>) -> Option<usize> {
+    usize::try_from(words.number()?).ok()
+}
+
+fn errand_of(words: &mut Words<'_>) -> Option<Errand> {
+    match words.next() {
+        "answer" => Some(Errand::Answer(words.number()?)),
+        "give_way" => Some(Errand::GiveWay(words.number()?)),
+        "stay" => Some(Errand::Stay),
+        _ => None,
+    }
+}
+
+// What is to come out: nothing, or the member of a number, with its answer or closed.
+fn came_out(words: &mut Words<'_>) -> Option<CameOut> {
+    let number = words.next();
+    if number == "nothing" {
+        return Some(None);
+    }
+    let number = number.parse::<usize>().ok()?;
+    match words.next() {
+        "closed" => Some(Some((number, Err(TaskClosed)))),
+        "gives" => Some(Some((number, Ok(words.number()?)))),
+        _ => None,
+    }
+}
+
 // Takes the steps of a script. Stops where one does not answer as stated.
-fn play_on<R: Wait + Abort + Drop + Copy>(line: &Line<R>, alloc: Global, script: &Script) {
+fn play_on<R: Wait + Abort + Drop + Copy>(line: &Line<R>, alloc: Global, room: usize, steps: &str) {
     let mut player = Player {
         line,
-        group: group_of(line, script.room),
+        group: group_of(line, room),
         handles: Vec::new(alloc),
         id: None,
     };
-    for (index, step) in script.steps.iter().enumerate() {
-        let right = player.take(*step);
-        assert!(line.rt; right, "{}: step {index}", script.name);
+    for step in steps.split(';') {
+        let mut words = Words::of(step);
+        let right = player.take(words.next(), &mut words) == Some(true) && words.are_read();
+        assert!(line.rt; right, "{step} of {steps}");
     }
 }
 
 /// Plays scripts, each on a line of its own. Stops where a call does not answer as stated.
 pub fn play<R: Wait + Abort + Drop + Copy>(rt: R, alloc: Global, scripts: &[Script]) {
-    for script in scripts {
-        play_on(&Line::new(rt, alloc, 1), alloc, script);
+    for &(room, steps) in scripts {
+        play_on(&Line::new(rt, alloc, 1), alloc, room, steps);
     }
 }

@@ -263,12 +263,7 @@ impl<R: Wait + Drop + Copy> RaceSurroundings<R> {
     /// were; there was no Runnable and no waker left, which this call would drop; no two polls overlapped, no two Runnables met, and
     /// there were no more polls than Runnables.
     pub fn ended(&self, rounds: u64) -> bool {
-        let Counts {
-            polls,
-            schedules,
-            future_drops,
-            scheduler_drops,
-        } = self.counters.counts();
+        let Counts(polls, schedules, future_drops, scheduler_drops) = self.counters.counts();
         let dropped = future_drops == rounds && scheduler_drops == rounds;
         let outputs = self.counters.output_drops.get() == self.outputs.get();
         let left = self.discard_next() || self.take_kept().is_some();

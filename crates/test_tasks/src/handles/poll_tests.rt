@@ -1,178 +1,146 @@
-//! Tests of calls that a second thread makes while the future is polled.
+//! Tests of calls that a second thread makes while the future is polled, or while a Task registers: the drop of the older awaiter is the one place for that.
 //! Of what is only tested (docs/PROOFS.md): Threads.
 
-use crate::handles::calls;
-use crate::handles::calls::RowCancel;
+use crate::handles::check::check_script;
+use async_task::{TaskClosed, TaskPoll};
 use rows_fixtures::behaviour::Behaviour;
 use rows_fixtures::counters::Counts;
+use rows_fixtures::counting::Counting;
 use rows_fixtures::fixture::Fixture;
 use rows_fixtures::flag::Flag;
-use rows_fixtures::surroundings::{RowRunnable, RowTask, RowWaker};
+use rows_fixtures::output::is_ready_with;
+use rows_fixtures::rendezvous::Rendezvous;
+use rows_fixtures::surroundings::{RowTask, SentRunnable};
 use std::alloc::Global;
 use std::process::Abort;
 use std::sync::Wait;
 use std::thread;
 use std::thread::Threads;
 
-// What a second thread saw during a poll: whether the poll came, and whether the word was the stated one before a wake and after it.
-type Seen = [bool; 3];
-
-// Runs, and wakes by value during the poll: what the run answers, what the second thread saw, and the Task. Stops where there is no thread.
-fn wake_beside<'x, R>(
-    fixture: &'x Fixture<R>,
-    runnable: RowRunnable<'x, R>,
-    waker: RowWaker<'x, R>,
-    task: RowTask<'x, R>,
-) -> (bool, Seen, RowTask<'x, R>)
-where
-    R: Wait + Threads + Abort + Drop + Copy + Send + Sync,
-{
-    let rt = fixture.rt;
-    let rendezvous = &fixture.surroundings.rendezvous;
-    rendezvous.arm();
-    thread::scope(thread::scope_env(), &rt, |scope| {
-        let second = scope.spawn(move || {
-            let came = rendezvous.await_poll();
-            let running = calls::task_shows(fixture, &task, 0x212);
-            calls::wake(waker);
-            let woken = calls::task_shows(fixture, &task, 0x113);
-            rendezvous.release();
-            ([came, running, woken], task)
-        });
-        let Ok(second) = second else {
-            panic!(rt; "no thread");
-        };
-        let rescheduled = calls::run(runnable);
-        let (seen, task) = second.join(&rt);
-        (rescheduled, seen, task)
-    })
-}
-
-// What is seen of a task that is woken by value during its poll, with its only waker: what the second thread saw, and whether the poll met it; what the run
-// answered, whether the Task showed the wake, what was queued, what the run of that answered, and whether its schedule value was told true; and what was counted.
-#[derive(Drop)]
-struct WokenInPoll {
-    seen: Seen,
-    met: bool,
-    rescheduled: bool,
-    shown: bool,
-    queued: usize,
-    ran: Option<bool>,
-    told: bool,
-    counts: Counts,
-}
-
-fn wake_in_poll<R>(rt: R, alloc: Global) -> WokenInPoll
-where
-    R: Wait + Threads + Abort + Drop + Copy + Send + Sync,
-{
-    let fixture = calls::fixture(rt, alloc);
-    let surroundings = &fixture.surroundings;
-    let (runnable, task) = calls::spawn(&fixture, Behaviour::Pending);
-    let waker = calls::waker_of(rt, &runnable);
-    let (rescheduled, seen, task) = wake_beside(&fixture, runnable, waker, task);
-    let shown = calls::task_shows(&fixture, &task, 0x111);
-    let queued = surroundings.queued();
-    calls::drop_task(task);
-    let ran = surroundings.run_next();
-    WokenInPoll {
-        seen,
-        met: surroundings.rendezvous.met(),
-        rescheduled,
-        shown,
-        queued,
-        ran,
-        told: surroundings.infos_are(&[true]),
-        counts: fixture.counts(),
-    }
-}
-
 // The run answers true, and hands over with true.
 #[test]
 fn a_wake_by_value_during_the_poll_reschedules(rt: HostRuntime) {
-    let woken = wake_in_poll(rt, rt.alloc());
-    assert!(rt; woken.seen == [true; 3] && woken.met && woken.rescheduled && woken.shown);
-    assert!(rt; (woken.queued, woken.ran, woken.told) == (1, Some(false), true));
-    assert!(rt; woken.counts == Counts::new(1, 1, 1, 1));
-}
-
-// Runs, and polls the Cancel during the poll: what the run answers, whether the Cancel waits with its awaiter unwoken, and the Cancel. Stops where there is no thread.
-fn cancel_beside<'x, R>(
-    fixture: &'x Fixture<R>,
-    runnable: RowRunnable<'x, R>,
-    mut cancel: RowCancel<'x, R>,
-    awaiter: &Flag,
-) -> (bool, bool, RowCancel<'x, R>)
-where
-    R: Wait + Threads + Abort + Drop + Copy + Send + Sync,
-{
-    let rt = fixture.rt;
-    let rendezvous = &fixture.surroundings.rendezvous;
-    rendezvous.arm();
-    thread::scope(thread::scope_env(), &rt, |scope| {
-        let second = scope.spawn(move || {
-            let came = rendezvous.await_poll();
-            let (waits, _) = calls::poll_cancel(&mut cancel, awaiter);
-            let unwoken = awaiter.wakes() == 0;
-            rendezvous.release();
-            (came && waits && unwoken, cancel)
-        });
-        let Ok(second) = second else {
-            panic!(rt; "no thread");
-        };
-        let rescheduled = calls::run(runnable);
-        let (waits, cancel) = second.join(&rt);
-        (rescheduled, waits, cancel)
-    })
-}
-
-// What is seen of a Cancel that is polled during the poll of the future and after it: whether it waited and then was empty, and whether the first poll met the
-// run; what the run answered; how its awaiter had been woken, and was at last; how many outputs were dropped; and what was counted before its drop and after it.
-#[derive(Drop)]
-struct Cancelled {
-    went: [bool; 3],
-    rescheduled: bool,
-    woken: [(u64, u64, u64); 2],
-    output_drops: u64,
-    counts: [Counts; 2],
-}
-
-// Polls a Cancel during the poll of the future, which then answers like that.
-fn cancel_in_poll<R>(rt: R, alloc: Global, behaviour: Behaviour) -> Cancelled
-where
-    R: Wait + Threads + Abort + Drop + Copy + Send + Sync,
-{
-    let fixture = calls::fixture(rt, alloc);
-    let flag = calls::flag(&fixture, 1);
-    let (runnable, task) = calls::spawn(&fixture, behaviour);
-    let (rescheduled, waits, mut cancel) = cancel_beside(&fixture, runnable, task.cancel(), &flag);
-    let woken = calls::ends_of(&flag);
-    let (_, empty) = calls::poll_cancel(&mut cancel, &flag);
-    let ended = fixture.counts();
-    calls::drop_cancel(cancel);
-    Cancelled {
-        went: [waits, empty, fixture.surroundings.rendezvous.met()],
-        rescheduled,
-        woken: [woken, calls::ends_of(&flag)],
-        output_drops: fixture.output_drops(),
-        counts: [ended, fixture.counts()],
-    }
-}
-
-// Stops where a Cancel does not wait as long as the future is polled, or an output comes of it.
-fn cancel_waits<R>(rt: R, alloc: Global, behaviour: Behaviour, output_drops: u64)
-where
-    R: Wait + Threads + Abort + Drop + Copy + Send + Sync,
-{
-    let seen = cancel_in_poll(rt, alloc, behaviour);
-    assert!(rt; seen.went == [true; 3] && !seen.rescheduled && seen.output_drops == output_drops);
-    assert!(rt; seen.woken == [(1, 1, 0); 2]);
-    assert!(rt; seen.counts == [Counts::new(1, 0, 1, 0), Counts::new(1, 0, 1, 1)]);
+    check_script(
+        rt,
+        rt.alloc(),
+        "spawn pending; waker | run again | shows 212; wake; shows 113 | \
+         shows 111; queued 1; drop_task; receive; run; told true; counted 1 1 1 1",
+    );
 }
 
 // It waits as long as the future is polled, and no output comes of it, whatever the poll answers.
 #[test]
 fn a_cancel_waits_for_the_poll_of_the_future(rt: HostRuntime) {
-    cancel_waits(rt, rt.alloc(), Behaviour::Pending, 0);
-    cancel_waits(rt, rt.alloc(), Behaviour::Ready(1), 1);
+    check_script(
+        rt,
+        rt.alloc(),
+        "spawn pending; cancel | run | poll 1 waits; woken 1 0 | ends 1 1 1 0; poll 1 closed; counted 1 0 1 0; drop_task; \
+         ends 1 1 1 0; outputs 0; counted 1 0 1 1",
+    );
+    check_script(
+        rt,
+        rt.alloc(),
+        "spawn ready 1; cancel | run | poll 1 waits; woken 1 0 | ends 1 1 1 0; poll 1 closed; counted 1 0 1 0; drop_task; \
+         ends 1 1 1 0; outputs 1; counted 1 0 1 1",
+    );
+}
+
+// What a poll answered: whether it is pending, ready with the number 6, or closed.
+type Polled = [bool; 3];
+
+fn poll<R: Wait + Drop + Copy>(task: &mut RowTask<'_, '_, R>, awaiter: &Flag) -> Polled {
+    let polled = task.poll(awaiter);
+    [
+        matches!(&polled, TaskPoll::Pending),
+        is_ready_with(&polled, 6),
+        matches!(&polled, TaskPoll::Ready(Err(TaskClosed))),
+    ]
+}
+
+// Ends a Runnable during that meeting, by a run or by its drop: whether the other thread came, and whether the Runnable showed the word before.
+fn end_at<R: Wait + Drop + Copy>(
+    fixture: &Fixture<'_, R>,
+    meeting: &Rendezvous,
+    sent: SentRunnable<'_, '_, R>,
+    runs: bool,
+) -> [bool; 2] {
+    let came = meeting.await_poll();
+    let shown = matches!(fixture.shows(&sent.runnable, "Runnable", 0x131), Ok(true));
+    if runs {
+        sent.run();
+    } else {
+        drop(sent);
+    }
+    meeting.release();
+    [came, shown]
+}
+
+// Polls a Task with a newer awaiter. While the older one is dropped, a second thread ends the Runnable: what the poll answered, and what that thread saw.
+// Stops where there is no thread.
+fn poll_beside<'x, 'm, R>(
+    fixture: &'x Fixture<'m, R>,
+    sent: SentRunnable<'x, 'm, R>,
+    task: &mut RowTask<'x, 'm, R>,
+    awaiters: &[Flag; 2],
+    runs: bool,
+) -> (Polled, [bool; 2])
+where
+    R: Wait + Threads + Abort + Drop + Copy + Send + Sync,
+{
+    let rt = fixture.rt;
+    let [older, newer] = awaiters;
+    let meeting = older.meeting();
+    meeting.arm();
+    thread::scope(thread::scope_env(), &rt, |scope| {
+        let second = scope.spawn(move || end_at(fixture, meeting, sent, runs));
+        let Ok(second) = second else {
+            panic!(rt; "no thread");
+        };
+        let polled = poll(task, newer);
+        (polled, second.join(&rt))
+    })
+}
+
+// What is seen of two polls: what they answered; what a second thread saw during the second one, and whether the older awaiter's drop met that; whether the Task
+// showed the stated word at last; how the awaiters ended; and what was counted.
+type Registered = ([Polled; 2], [bool; 4], [(u64, u64, u64); 2], Counts);
+
+// Polls twice, and lets the task end while the second poll registers.
+fn poll_twice<R>(rt: R, alloc: Global, runs: bool, word: u64) -> Registered
+where
+    R: Wait + Threads + Abort + Drop + Copy + Send + Sync,
+{
+    let counting = Counting::new(alloc);
+    let fixture = Fixture::new(rt, alloc, &counting).expect(&rt, "refused");
+    let awaiters = [
+        fixture.flag(1).expect(&rt, "refused"),
+        fixture.flag(2).expect(&rt, "refused"),
+    ];
+    let spawned = fixture.spawn(Behaviour::Ready(6), u64::MAX);
+    let (runnable, mut task) = spawned.expect(&rt, "refused");
+    let first = poll(&mut task, &awaiters[0]);
+    let sent = SentRunnable { runnable };
+    let (second, [came, running]) = poll_beside(&fixture, sent, &mut task, &awaiters, runs);
+    let shown = matches!(fixture.shows(&task, "Task", word), Ok(true));
+    drop(task);
+    (
+        [first, second],
+        [came, running, awaiters[0].meeting().met(), shown],
+        [awaiters[0].ends(), awaiters[1].ends()],
+        fixture.counts(),
+    )
+}
+
+// While a Task registers once more, AWAITER stays set, and REGISTERING is not shown. After a run the poll is ready by its second look, and after the drop of the
+// Runnable it is closed. Either way it wakes its own awaiter, which the other thread could not take.
+#[test]
+fn an_end_while_a_task_registers_is_seen_by_its_poll(rt: HostRuntime) {
+    let ran = poll_twice(rt, rt.alloc(), true, 0x01C);
+    let dropped = poll_twice(rt, rt.alloc(), false, 0x018);
+    let waits = [true, false, false];
+    let ends = [(1, 0, 1), (1, 1, 0)];
+    let ready = [false, true, false];
+    assert!(rt; ran == ([waits, ready], [true; 4], ends, Counts(1, 0, 1, 1)));
+    let closed = [false, false, true];
+    assert!(rt; dropped == ([waits, closed], [true; 4], ends, Counts(0, 0, 1, 1)));
 }

@@ -2,8 +2,9 @@
 //! Of what is only tested (docs/PROOFS.md): Memory and limits.
 ghost use Rattle.std.specs.Prelude.{⊤};
 
-use async_task::{Future, Poll, Schedule, ScheduleInfo, Task, Wake, Yields, spawn};
+use async_task::{Future, Poll, Task, Wake, Yields, spawn};
 use rows_fixtures::counting::Counting;
+use rows_fixtures::surroundings::Nowhere;
 use std::alloc::Global;
 use std::marker::PhantomData;
 use std::process::Abort;
@@ -67,16 +68,6 @@ impl<P: Drop> Wake for Deaf<P> {
     fn will_wake(&self, _other: &Deaf<P>) -> bool {
         false
     }
-}
-
-// A schedule value without bytes, which drops each Runnable.
-#[derive(Drop)]
-struct Nowhere;
-
-impl<N: Drop> Schedule<N> for Nowhere {
-    ghost scheduled = { λ _ _ _. ⊤ };
-
-    fn schedule(&self, _runnable: N, _info: ScheduleInfo) {}
 }
 
 // How many allocations a spawn makes, and of how many bytes, with values of these types. Stops where there is no memory.
