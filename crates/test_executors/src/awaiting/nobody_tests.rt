@@ -1,5 +1,5 @@
 //! The awaiter that wakes nobody.
-//! Of what is only tested (docs/PROOFS.md): Whose.
+//! Of what is only tested (docs/PROOFS.md): Handles.
 use super::number::Number;
 use async_task::{Task, TaskPoll, Wake, spawn};
 use executor_parts::Nobody;
