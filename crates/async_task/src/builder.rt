@@ -9,7 +9,7 @@ use crate::task::{Task, TaskParty};
 use std::alloc::{AllocError, Allocator};
 use std::sync::Wait;
 use std::{fmt, io};
-use task_cell::{AwaiterClone, LaidCell, Runnable};
+use task_cell::{LaidCell, Runnable};
 use task_core::word::LIMIT;
 use task_core::{Schedule, Wake, Yields};
 use thiserror::Error;
@@ -151,7 +151,7 @@ impl<M: Drop> Builder<M> {
 
 // The handles of a task whose memory was found: the future is put in.
 fn handles_of<R, F, Q, M, A, X, B>(
-    laid: LaidCell<R, F, Q, M, AwaiterClone<A>, B>,
+    laid: LaidCell<R, F, Q, M, A, B>,
     future: F,
     around: X,
 ) -> (Runnable<R, F, Q, M, A, X, B>, Task<R, F, Q, M, A, X, B>)

@@ -1,7 +1,7 @@
 //! The Task as a handle that cancels the task, and waits until its future is gone.
 ghost use Rattle.std.specs.Prelude.{◌≡◌, List, true, false, None};
 ghost use Rattle.task_cell.specs.Stores.{Registration};
-ghost use Rattle.task_cell.specs.Woken.{WokeClone};
+ghost use Rattle.task_cell.specs.Woken.{WokeStored};
 ghost use Rattle.task_cell.specs.Belongs.{cell_of, HasYielded};
 ghost use Rattle.task_steps.specs.declared.table.Deed.{Deed};
 ghost use Rattle.task_steps.specs.Steps.{saw_over, saw_ended};
@@ -90,7 +90,7 @@ where
     /// The output is one that the future which was spawned has answered, as that of a Task, and meets what its type states. After `None` each later poll answers the same.
     /// `Refused` says that the clone was refused: the task is cancelled all the same, nothing was registered, and an awaiter that an earlier poll registered is still woken.
     pub fn poll(&mut self, awaiter: &A) -> TaskPoll<Option<F::Output>>
-        ensures path { PollsClosed self.old.cancelled (CancelPath (HandedOver Q.scheduled (cell_of self.old.task.inner.share) self.old.task.around false) (WokeClone A.Wake)) A.cloned A.woken A.woken_by_ref A.compared awaiter.now self.old.task.inner.party self.new.task.inner.party result }
+        ensures path { PollsClosed self.old.cancelled (CancelPath (HandedOver Q.scheduled (cell_of self.old.task.inner.share) self.old.task.around false) (WokeStored A.woken)) A.cloned A.woken A.woken_by_ref A.compared awaiter.now self.old.task.inner.party self.new.task.inner.party result }
         ensures meets { IfSomeOutput result (λ output. ∥ F.Yields.meets output ∥₁) }
         ensures yielded { IfSomeOutput result (λ output. HasYielded self.old.task.inner.share output) }
         ensures ended { saw_ended (deeds self.old.task.inner.party) ≡ true → result ≡ TaskPoll.Ready None }
@@ -106,7 +106,7 @@ where
 
     // Cancels the task, unless an earlier poll did.
     fn cancel_once(&mut self)
-        ensures path { (path : List Deed) × ClosesUnless self.old.cancelled (CancelPath (HandedOver Q.scheduled (cell_of self.old.task.inner.share) self.old.task.around false) (WokeClone A.Wake)) path × Did path (position self.old.task.inner.party) self.old.task.inner.party self.new.task.inner.party }
+        ensures path { (path : List Deed) × ClosesUnless self.old.cancelled (CancelPath (HandedOver Q.scheduled (cell_of self.old.task.inner.share) self.old.task.around false) (WokeStored A.woken)) path × Did path (position self.old.task.inner.party) self.old.task.inner.party self.new.task.inner.party }
         ensures cancelled { self.new.cancelled ≡ true }
         ensures ended { saw_ended (deeds self.old.task.inner.party) ≡ true → saw_ended (deeds self.new.task.inner.party) ≡ true }
         ensures cell { self.new.task.inner.share ≡ self.old.task.inner.share }

@@ -5,7 +5,7 @@ ghost use Rattle.task_steps.specs.Standing.{as_ended};
 ghost use Rattle.task_steps.specs.Steps.{saw_over, saw_ended};
 ghost use Rattle.async_task.specs.HandlePaths.{EndsTask, FindsFinished, PollsOnce, IfSomeOutput};
 ghost use Rattle.task_cell.specs.Stores.{Registration};
-ghost use Rattle.task_cell.specs.Woken.{WokeClone};
+ghost use Rattle.task_cell.specs.Woken.{WokeStored};
 ghost use Rattle.task_cell.specs.Belongs.{cell_of, HasYielded};
 ghost use Rattle.task_cell.specs.Calls.{Did, deeds};
 ghost use Rattle.task_cell.specs.Handed.{HandedOver};
@@ -16,7 +16,7 @@ use crate::cancel::Cancel;
 use crate::task::Task;
 use std::alloc::{Allocator, Global};
 use std::sync::Wait;
-use task_cell::{AwaiterClone, EndedCall, Kept, Runnable};
+use task_cell::{EndedCall, Kept, Runnable};
 use task_core::word::Word;
 use task_core::{Schedule, TaskPoll, Wake, Yields};
 
@@ -58,8 +58,8 @@ where
     }
 
     /// Does what a drop does: cancels the task, and gives the Task up.
-    pub fn discard(self) -> EndedCall<F, Kept<F>, AwaiterClone<A>>
-        ensures path { EndsTask (CancelPath (HandedOver Q.scheduled (cell_of self.task.inner.share) self.task.around false) (WokeClone A.Wake)) (DetachPath (HandedOver Q.scheduled (cell_of self.task.inner.share) self.task.around false)) self.task.inner.party result.party }
+    pub fn discard(self) -> EndedCall<F, Kept<F>, A>
+        ensures path { EndsTask (CancelPath (HandedOver Q.scheduled (cell_of self.task.inner.share) self.task.around false) (WokeStored A.woken)) (DetachPath (HandedOver Q.scheduled (cell_of self.task.inner.share) self.task.around false)) self.task.inner.party result.party }
     {
         let FallibleTask { task } = self;
         task.discard()
@@ -79,7 +79,7 @@ where
     }
 
     /// Gives the Task up and lets the task go on. An output that nobody claimed is dropped.
-    pub fn detach(self) -> EndedCall<F, Kept<F>, AwaiterClone<A>>
+    pub fn detach(self) -> EndedCall<F, Kept<F>, A>
         ensures path { (path : List Deed) × DetachPath (HandedOver Q.scheduled (cell_of self.task.inner.share) self.task.around false) path × Did path as_ended self.task.inner.party result.party }
     {
         let FallibleTask { task } = self;

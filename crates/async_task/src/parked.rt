@@ -11,7 +11,7 @@ use task_core::{Schedule, Wake, Yields};
 
 /// A Task without the surroundings. It counts as the Task, and can't be dropped: it is unparked.
 #[must_use]
-pub struct ParkedTask<R, F: Yields, Q, M, A: Wake, B: Allocator + Copy = Global> {
+pub struct ParkedTask<R, F: Yields, Q, M, A, B: Allocator + Copy = Global> {
     pub(crate) inner: TaskParty<R, F, Q, M, A, B>,
 }
 

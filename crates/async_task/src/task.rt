@@ -10,7 +10,7 @@ ghost use Rattle.task_cell.specs.PollPaths.{IfOutput};
 ghost use Rattle.async_task.specs.HandlePaths.{EndsTask, FindsFinished, PollsOnce, IfSomeOutput, fallible_answer, is_closed};
 ghost use Rattle.task_cell.specs.Witnessed.{Witnesses};
 ghost use Rattle.task_cell.specs.Stores.{Registration};
-ghost use Rattle.task_cell.specs.Woken.{WokeClone};
+ghost use Rattle.task_cell.specs.Woken.{WokeStored};
 ghost use Rattle.task_cell.specs.Calls.{Did, deeds, position, places_of, limit_of, is_empty};
 ghost use Rattle.task_steps.specs.Standing.{as_ended, is_task};
 
@@ -20,7 +20,7 @@ use crate::parked::ParkedTask;
 use std::alloc::{Allocator, Global};
 use std::io;
 use std::sync::Wait;
-use task_cell::{AwaiterClone, EndedCall, Kept, Party, Runnable, Share};
+use task_cell::{EndedCall, Kept, Party, Runnable, Share};
 use task_core::word::Word;
 use task_core::{Schedule, TaskPoll, Wake, Yields};
 use thiserror::Error;
@@ -37,9 +37,9 @@ impl From<TaskClosed> for io::Error {
 }
 
 /// A share of a cell, and the party of its Task.
-pub(crate) struct TaskParty<R, F: Yields, Q, M, A: Wake, B: Allocator + Copy> {
-    pub(crate) share: Share<R, F, Q, M, AwaiterClone<A>, B>,
-    pub(crate) party: Party<F, Kept<F>, AwaiterClone<A>>,
+pub(crate) struct TaskParty<R, F: Yields, Q, M, A, B: Allocator + Copy> {
+    pub(crate) share: Share<R, F, Q, M, A, B>,
+    pub(crate) party: Party<F, Kept<F>, A>,
     ghost seated: { party.seat.block ≡ share.block.id },
     ghost limited: { limit_of party ≡ share.block.key.limit },
     ghost placed: { is_task (position party) ≡ true },
@@ -95,7 +95,7 @@ impl<R: Wait + Drop + Copy, F: Yields, Q: Drop, M: Drop, A: Wake, B: Allocator +
     pub(crate) fn cancel<X: Copy>(&mut self, around: X)
     where
         Q: Schedule<Runnable<R, F, Q, M, A, X, B>>,
-        ensures path { (path : List Deed) × CancelPath (HandedOver Q.scheduled (cell_of self.old.share) around false) (WokeClone A.Wake) path × Did path (position self.old.party) self.old.party self.new.party }
+        ensures path { (path : List Deed) × CancelPath (HandedOver Q.scheduled (cell_of self.old.share) around false) (WokeStored A.woken) path × Did path (position self.old.party) self.old.party self.new.party }
         ensures share { self.new.share ≡ self.old.share }
     {
         self.share.cancel(&mut self.party, around);
@@ -165,8 +165,8 @@ where
     }
 
     /// Does what a drop does: cancels the task, and gives the Task up.
-    pub fn discard(self) -> EndedCall<F, Kept<F>, AwaiterClone<A>>
-        ensures path { EndsTask (CancelPath (HandedOver Q.scheduled (cell_of self.inner.share) self.around false) (WokeClone A.Wake)) (DetachPath (HandedOver Q.scheduled (cell_of self.inner.share) self.around false)) self.inner.party result.party }
+    pub fn discard(self) -> EndedCall<F, Kept<F>, A>
+        ensures path { EndsTask (CancelPath (HandedOver Q.scheduled (cell_of self.inner.share) self.around false) (WokeStored A.woken)) (DetachPath (HandedOver Q.scheduled (cell_of self.inner.share) self.around false)) self.inner.party result.party }
     {
         let (inner, around) = self.into_parts();
         let TaskParty { share, mut party } = inner;
@@ -216,7 +216,7 @@ where
     }
 
     /// Gives the Task up and lets the task go on. An output that nobody claimed is dropped.
-    pub fn detach(self) -> EndedCall<F, Kept<F>, AwaiterClone<A>>
+    pub fn detach(self) -> EndedCall<F, Kept<F>, A>
         ensures path { (path : List Deed) × DetachPath (HandedOver Q.scheduled (cell_of self.inner.share) self.around false) path × Did path as_ended self.inner.party result.party }
     {
         let (inner, around) = self.into_parts();

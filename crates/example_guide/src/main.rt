@@ -4,9 +4,7 @@
 ghost use Rattle.std.specs.Prelude.{⊤, ◌≡◌};
 ghost use Rattle.task_core.specs.Poll.{IfReady};
 
-use async_task::{
-    Future, Poll, Runnable, Schedule, ScheduleInfo, Task, TaskWaker, Wake, Yields, spawn,
-};
+use async_task::{Future, Poll, Runnable, Schedule, ScheduleInfo, Task, TaskWaker, Yields, spawn};
 use executor_parts::{Awaiter, block_on};
 use std::alloc::{AllocError, Global};
 use std::collections::VecDeque;
@@ -21,10 +19,7 @@ type Job<R, X> = Task<R, Delay, ToQueue, (), Awaiter<R>, X>;
 type Waker<R, X> = TaskWaker<R, Delay, ToQueue, (), Awaiter<R>, X>;
 
 #[derive(Drop)]
-struct State<R: Wait + Drop + Copy>
-where
-    Awaiter<R>: Wake,
-{
+struct State<R: Wait + Drop + Copy> {
     queue: VecDeque<Work<R, ()>>,
     kept: Vec<Waker<R, ()>>,
     time: Option<u64>, // `None` after the shutdown

@@ -9,7 +9,7 @@ use std::sync::Wait;
 use work_queues::Crew;
 
 /// A Runnable as the queues of a pool and the hands of its workers have it. It has no `Drop`, so it ends in `run`, in `cancel`, or in `hand_out`.
-pub(crate) struct DueRunnable<R, F: Yields, A: Wake, M> {
+pub(crate) struct DueRunnable<R, F: Yields, A, M> {
     parked: ParkedRunnable<R, F, ToPool, M, A>,
 }
 

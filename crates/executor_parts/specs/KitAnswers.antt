@@ -23,7 +23,7 @@ answered Refuses = Ready (Err Refused)
 answered Waits = Pending
 
 -- the Task is polled once with this awaiter, its party is p before and q after, and the kit is told the answer
-abbrev pub PollsTask : {F T U A B : Type 0} → KitAwaiter B → (p q : Party F T A) → Poll (Result U AwaitError) → Type 0
+abbrev pub PollsTask : {F T U B : Type 0} → KitAwaiter B → (p q : Party F T (KitAwaiter B)) → Poll (Result U AwaitError) → Type 0
 PollsTask {U = U} awaiter p q answer =
     (polled : TaskPoll (Option U)) × PollsOnce {K = ⊤} SharesSlot (λ _ _. ⊤) (λ _ _. ⊤) (λ _ _ same. same ≡ false) awaiter p q polled
     × (answer ≡ answered polled)

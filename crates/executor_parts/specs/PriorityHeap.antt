@@ -8,7 +8,7 @@ use Rattle.executor_parts.specs.declared.heap.PriorityHeap.{PriorityHeap}
 
 module _ {R F Q A O K : Type 0} {G : yields.Ghosts F O} {W : wake.Ghosts A K} where
   -- the Runnables that a heap holds, in no particular order
-  abbrev pub entries : PriorityHeap R F Q A O K G W → List (Runnable R F Q ℕ A ⊤ Global O K G W)
+  abbrev pub entries : PriorityHeap R F Q A O K G W → List (Runnable R F Q ℕ A ⊤ Global O K G)
   entries it = map (λ entry. entry.runnable) (heap_items it.heap)
 
   -- how many it has room for

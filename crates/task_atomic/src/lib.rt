@@ -18,7 +18,7 @@ ghost use Rattle.task_atomic.specs.Registered.{OpenTaskKeepsAwaiter, PendingIsRe
 ghost use Rattle.task_atomic.specs.Runs.{CallsAreRuns};
 ghost use Rattle.task_atomic.specs.Tables.{CancelsAgain};
 ghost use Rattle.task_atomic.specs.Witnessed.{WitnessesExplain};
-ghost use Rattle.task_cell.specs.Woken.{WokeClone};
+ghost use Rattle.task_cell.specs.Woken.{WokeStored};
 ghost use Rattle.task_cell.specs.Handed.{HandedOver, PolledOnce};
 ghost use Rattle.task_laws.specs.Table.{rule};
 ghost use Rattle.task_steps.specs.Values.{values_of};
@@ -60,7 +60,7 @@ where
     Q: Schedule<Runnable<R, F, Q, M, A, X, B>>,
     F: Future<TaskWaker<R, F, Q, M, A, X, B>>,
     ensures deeds { DeedsAreSteps }
-    ensures paths { (spawned : _) (cell : _) (around : _) → PathsAreActs (HandedOver Q.scheduled cell around) (PolledOnce F.polled spawned cell around) (WokeClone A.Wake) A.cloned A.woken A.woken_by_ref A.compared }
+    ensures paths { (spawned : _) (cell : _) (around : _) → PathsAreActs (HandedOver Q.scheduled cell around) (PolledOnce F.polled spawned cell around) (WokeStored A.woken) A.cloned A.woken A.woken_by_ref A.compared }
 {}
 
 /// Wherever the rule of a cell holds, its interleaving is a run of the small task that ends in the present word, in which each party of a seat did last

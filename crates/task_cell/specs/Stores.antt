@@ -7,7 +7,6 @@ use Rattle.task_laws.specs.declared.positions.Position.{Position}
 use Rattle.task_laws.specs.declared.positions.Position.TheVariants.{Registered}
 use Rattle.task_laws.specs.Table.{after_storing}
 use Rattle.task_steps.specs.declared.places.Held.{Held}
-use Rattle.task_steps.specs.declared.stored.AwaiterClone.{AwaiterClone}
 use Rattle.task_steps.specs.declared.stored.StoredAwaiter.{StoredAwaiter}
 use Rattle.task_steps.specs.declared.table.Deed.{Deed}
 use Rattle.task_steps.specs.Deeds.{row}
@@ -35,13 +34,13 @@ module _ {F T A : Type 0} where
     pub has : DidWith before (Registered i) (awaiter_first (Some stored) []) p between
     pub gives : Did (row EndRegister word ∷ after) at between q
 
--- the same, and the awaiter is a clone of the one that the poll was lent, as its type says
-abbrev pub StoresClone : {F T A K : Type 0} (G : Ghosts A K) → A → Party F T (AwaiterClone A K G) → Party F T (AwaiterClone A K G) → Type 0
+-- the poll has stored a clone of the awaiter that it was lent, as its type says, under its own number
+abbrev pub StoresClone : {F T A K : Type 0} (G : Ghosts A K) → A → Party F T A → Party F T A → Type 0
 StoresClone {A = A} {K = K} G lent p q =
-    (stored : StoredAwaiter (AwaiterClone A K G)) × (stored.awaiter.lent.value ≡ lent) × GivesBack (poll_number (position p)) stored p q
+    (stored : StoredAwaiter A) × G.cloned lent (Ok stored.awaiter) × GivesBack (poll_number (position p)) stored p q
 
 -- what a poll has done for the awaiter that it was lent, before it answers Pending
-pub data Registration {F T A K : Type 0} (G : Ghosts A K) (lent : A) (p q : Party F T (AwaiterClone A K G)) : Type 0 where
+pub data Registration {F T A K : Type 0} (G : Ghosts A K) (lent : A) (p q : Party F T A) : Type 0 where
   is_stored : StoresClone G lent p q → Registration G lent p q
   is_woken : (told : K) → G.woken_by_ref lent told → Registration G lent p q
   clone_is_woken : (clone : A) (told : K) → G.cloned lent (Ok clone) → G.woken clone told → Registration G lent p q

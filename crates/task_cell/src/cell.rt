@@ -10,7 +10,7 @@ use std::alloc::{Allocator, Global};
 use std::sync::Wait;
 use task_core::word::Word;
 use task_core::{Wake, Yields};
-use task_steps::table::{AwaiterClone, Kept, TaskSeat, discard};
+use task_steps::table::{Kept, TaskSeat, discard};
 
 /// What all handles of a task see: the metadata, the schedule value, the limit of references, the runtime value and the allocator, which are dropped in this order. It lies in one block with the word and the places.
 #[derive(Drop)]
@@ -112,7 +112,7 @@ pub struct Runnable<
     X: Copy,
     B: Allocator + Copy = Global,
 > {
-    pub(crate) inner: RunnableSeat<R, F, Q, M, AwaiterClone<A>, B>,
+    pub(crate) inner: RunnableSeat<R, F, Q, M, A, B>,
     pub(crate) around: X,
 }
 
@@ -134,8 +134,8 @@ impl<
 > Runnable<R, F, Q, M, A, X, B> {
     /// The Runnable of a task that was just spawned, by a share of its cell and the party that `fill` answered with. It makes no step.
     pub fn new(
-        share: Share<R, F, Q, M, AwaiterClone<A>, B>,
-        party: Party<F, Kept<F>, AwaiterClone<A>>,
+        share: Share<R, F, Q, M, A, B>,
+        party: Party<F, Kept<F>, A>,
         around: X,
     ) -> Runnable<R, F, Q, M, A, X, B>
         requires cell { party.seat.block ≡ share.block.id }
@@ -148,7 +148,7 @@ impl<
     }
 
     // What the Runnable is made of.
-    pub(crate) fn into_parts(self) -> (RunnableSeat<R, F, Q, M, AwaiterClone<A>, B>, X)
+    pub(crate) fn into_parts(self) -> (RunnableSeat<R, F, Q, M, A, B>, X)
         ensures inner { result.0 ≡ self.inner }
         ensures around { result.1 ≡ self.around }
     {

@@ -6,7 +6,6 @@
 #![tactic(auto)]
 
 pub mod attempt;
-pub mod clones;
 pub mod common;
 pub mod kept;
 pub mod places;
@@ -16,6 +15,7 @@ pub mod script;
 pub mod spawn;
 pub mod start;
 pub mod stored;
+pub mod storing;
 pub mod table;
 pub mod task;
 pub mod waker;

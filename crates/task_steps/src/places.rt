@@ -5,7 +5,7 @@ ghost use Rattle.task_steps.specs.Held.{held};
 ghost use Rattle.task_steps.specs.Steps.{work_first, awaiter_first};
 
 use crate::kept::Kept;
-use crate::stored::{AwaiterClone, StoredAwaiter};
+use crate::stored::StoredAwaiter;
 use crate::table::{Block, LastBlock, Slot, TaskSeat};
 use std::alloc::Allocator;
 use task_core::{Wake, Yields};
@@ -32,22 +32,21 @@ impl<T: Drop> Held<T> {
     }
 }
 
-impl<A: Wake> Held<StoredAwaiter<AwaiterClone<A>>> {
-    /// Wakes the clone that was stored, by value. The record of the wake says so, and is dropped.
+impl<A: Wake> Held<StoredAwaiter<A>> {
+    /// Wakes the awaiter that was stored, by value. The record of the wake says so, and is dropped.
     pub fn wake(self)
-        ensures { (told : A.Record) × A.woken self.value.awaiter.awaiter told }
+        ensures { (told : A.Record) × A.woken self.value.awaiter told }
     {
         let Held { value } = self;
         let StoredAwaiter { awaiter, by: _ } = value;
-        let AwaiterClone { awaiter, lent: _ } = awaiter;
         awaiter.wake();
     }
 
-    /// Whether a wake of the clone that was stored is known to wake the other one too.
+    /// Whether a wake of the awaiter that was stored is known to wake the other one too.
     pub fn will_wake(&self, other: &A) -> bool
-        ensures { A.compared self.now.value.awaiter.awaiter other.now result }
+        ensures { A.compared self.now.value.awaiter other.now result }
     {
-        self.value.awaiter.awaiter.will_wake(other)
+        self.value.awaiter.will_wake(other)
     }
 }
 

@@ -7,7 +7,7 @@ ghost use Rattle.task_steps.specs.declared.table.Slot.{Slot};
 ghost use Rattle.task_steps.specs.Seats.{is_spent};
 
 pub use crate::kept::Kept;
-pub use crate::stored::{AwaiterClone, StoredAwaiter};
+pub use crate::stored::StoredAwaiter;
 use counted_block::{
     Bare, BlockRule, Hold, Inner, LastShare, Ledger, MaybeShare, Place, Seat, Share,
 };

@@ -8,7 +8,7 @@ ghost use Rattle.task_cell.specs.Calls.{deeds};
 ghost use Rattle.executor_parts.specs.KitAnswers.{PollsTask};
 
 use crate::kit::awaiter::{KitAwaiter, Unregistered};
-use async_task::{Runnable, Schedule, Task, TaskPoll, Wake, Yields};
+use async_task::{Runnable, Schedule, Task, TaskPoll, Yields};
 use futures::Future;
 use futures::task::{Context, Poll};
 use std::alloc::{AllocError, Allocator, Global};
@@ -67,7 +67,6 @@ pub struct Awaits<
     B: Allocator + Copy = Global,
 >
 where
-    KitAwaiter<B>: Wake,
     Q: Schedule<Runnable<R, F, Q, M, KitAwaiter<B>, X, B>>,
 {
     pub(crate) task: Task<R, F, Q, M, KitAwaiter<B>, X, B>,

@@ -7,7 +7,7 @@ ghost use Rattle.task_laws.specs.declared.positions.Position.TheVariants.{CallEn
 ghost use Rattle.task_laws.specs.declared.positions.Rest.{Rest};
 ghost use Rattle.task_core.specs.declared.acts.Act.TheVariants.{EndCall};
 ghost use Rattle.task_steps.specs.declared.table.Deed.{Deed};
-ghost use Rattle.task_cell.specs.Woken.{WokeClone};
+ghost use Rattle.task_cell.specs.Woken.{WokeStored};
 ghost use Rattle.task_cell.specs.TaskPaths.{Cancels, Notice, CancelPath};
 ghost use Rattle.task_cell.specs.Handed.{HandedOver};
 ghost use Rattle.task_cell.specs.Calls.{Stands, Did, first, position, limit_of};
@@ -22,7 +22,7 @@ use std::alloc::Allocator;
 use std::sync::Wait;
 use task_core::{Schedule, Wake, Yields};
 use task_steps::attempt::TriedOnce;
-use task_steps::table::{AwaiterClone, Kept};
+use task_steps::table::Kept;
 use task_steps::task::{Cancelled, Cancelling};
 
 impl<R: Wait + Drop + Copy, F: Yields, Q: Drop, M: Drop, A: Wake, B: Allocator + Copy> Share<
@@ -30,16 +30,16 @@ impl<R: Wait + Drop + Copy, F: Yields, Q: Drop, M: Drop, A: Wake, B: Allocator +
     F,
     Q,
     M,
-    AwaiterClone<A>,
+    A,
     B,
 > {
     /// Closes the task, if it is not over. Its future is dropped by the run or the Runnable that there is, or else by one that is handed over here.
-    pub fn cancel<X: Copy>(&self, party: &mut Party<F, Kept<F>, AwaiterClone<A>>, around: X)
+    pub fn cancel<X: Copy>(&self, party: &mut Party<F, Kept<F>, A>, around: X)
     where
         Q: Schedule<Runnable<R, F, Q, M, A, X, B>>,
         requires cell { IsOf self.now party.old × (limit_of party.old ≡ limit_in self.now) }
         requires party { (n : ℕ) × Stands (as_task n) party.old }
-        ensures path { (path : List Deed) × CancelPath (HandedOver Q.scheduled (cell_of self.now) around false) (WokeClone A.Wake) path × Did path (position party.old) party.old party.new }
+        ensures path { (path : List Deed) × CancelPath (HandedOver Q.scheduled (cell_of self.now) around false) (WokeStored A.woken) path × Did path (position party.old) party.old party.new }
     {
         let Some(closed) = self.close_task(party) else {
             return;
@@ -59,8 +59,8 @@ impl<R: Wait + Drop + Copy, F: Yields, Q: Drop, M: Drop, A: Wake, B: Allocator +
     // The row of a cancel: what it found, and the share of a Runnable, if it brought one.
     fn close_task(
         &self,
-        party: &mut Party<F, Kept<F>, AwaiterClone<A>>,
-    ) -> Option<(Cancelled, MaybeShare<R, F, Q, M, AwaiterClone<A>, B>)>
+        party: &mut Party<F, Kept<F>, A>,
+    ) -> Option<(Cancelled, MaybeShare<R, F, Q, M, A, B>)>
         requires cell { IsOf self.now party.old × (limit_of party.old ≡ limit_in self.now) }
         requires party { (n : ℕ) × Stands (as_task n) party.old }
         ensures path { (n : ℕ) → Stands (as_task n) party.old → Cancels n party.old party.new (first result) }
@@ -73,10 +73,10 @@ impl<R: Wait + Drop + Copy, F: Yields, Q: Drop, M: Drop, A: Wake, B: Allocator +
     }
 
     // The awaiter is taken and woken, if one is due, and the call ends.
-    fn leave_closed(&self, party: &mut Party<F, Kept<F>, AwaiterClone<A>>, due: bool)
+    fn leave_closed(&self, party: &mut Party<F, Kept<F>, A>, due: bool)
         requires cell { IsOf self.now party.old }
         requires party { (n : ℕ) × Stands (notifies due (OfCancel n)) party.old }
-        ensures { (n : ℕ) → Stands (notifies due (OfCancel n)) party.old → (path : List Deed) × Notice (WokeClone A.Wake) due path × Did (path ++ act EndCall ∷ []) (as_task n) party.old party.new }
+        ensures { (n : ℕ) → Stands (notifies due (OfCancel n)) party.old → (path : List Deed) × Notice (WokeStored A.woken) due path × Did (path ++ act EndCall ∷ []) (as_task n) party.old party.new }
     {
         let awaiter = self.take_due(party, due);
         let ledger = self.ledger();

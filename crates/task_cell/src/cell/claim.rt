@@ -23,7 +23,7 @@ use task_core::word::Word;
 use task_core::{Wake, Yields};
 use task_steps::places::{Held, take_work};
 use task_steps::poll::HandingOut;
-use task_steps::table::{AwaiterClone, Kept};
+use task_steps::table::Kept;
 
 impl<R: Drop, F: Yields, Q: Drop, M: Drop, A: Drop, B: Allocator + Copy> Share<R, F, Q, M, A, B> {
     /// Hands the output out, and ends the poll. One load.
@@ -44,13 +44,13 @@ impl<R: Wait + Drop + Copy, F: Yields, Q: Drop, M: Drop, A: Wake, B: Allocator +
     F,
     Q,
     M,
-    AwaiterClone<A>,
+    A,
     B,
 > {
     // Takes the stored awaiter, and wakes it, unless its wake wakes the caller.
     pub(crate) fn take_awaiter(
         &self,
-        party: &mut Party<F, Kept<F>, AwaiterClone<A>>,
+        party: &mut Party<F, Kept<F>, A>,
         awaiter: &LentAwaiter<'_, A>,
     )
         requires cell { IsOf self.now party.old }
@@ -71,7 +71,7 @@ impl<R: Wait + Drop + Copy, F: Yields, Q: Drop, M: Drop, A: Wake, B: Allocator +
     // Takes the stored awaiter where the word that was found says that there is one.
     fn take_awaiter_of(
         &self,
-        party: &mut Party<F, Kept<F>, AwaiterClone<A>>,
+        party: &mut Party<F, Kept<F>, A>,
         awaiter: &LentAwaiter<'_, A>,
         found: Word,
     )
@@ -87,7 +87,7 @@ impl<R: Wait + Drop + Copy, F: Yields, Q: Drop, M: Drop, A: Wake, B: Allocator +
     // Takes the stored awaiter where there is one, and hands out the output that a look has taken on this word.
     pub(crate) fn take_output(
         &self,
-        party: &mut Party<F, Kept<F>, AwaiterClone<A>>,
+        party: &mut Party<F, Kept<F>, A>,
         awaiter: &LentAwaiter<'_, A>,
         found: Word,
     ) -> Held<Kept<F>>

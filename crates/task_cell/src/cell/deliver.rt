@@ -17,7 +17,7 @@ use std::alloc::Allocator;
 use std::sync::Wait;
 use task_core::{Schedule, ScheduleInfo, Wake, Yields};
 use task_steps::common::HandingOver;
-use task_steps::table::{AwaiterClone, Kept};
+use task_steps::table::Kept;
 
 impl<R: Drop, F: Yields, Q: Drop, M: Drop, A: Drop, B: Allocator + Copy> Share<R, F, Q, M, A, B> {
     /// The Runnable of a party that hands one over. It makes no step.
@@ -36,14 +36,14 @@ impl<R: Wait + Drop + Copy, F: Yields, Q: Drop, M: Drop, A: Wake, B: Allocator +
     F,
     Q,
     M,
-    AwaiterClone<A>,
+    A,
     B,
 > {
     // Hands a Runnable to the schedule value, by a share that the party's step brought. The act stands in the list before the schedule value is called.
     pub(crate) fn deliver_by<X: Copy>(
         &self,
         share: Self,
-        party: &mut Party<F, Kept<F>, AwaiterClone<A>>,
+        party: &mut Party<F, Kept<F>, A>,
         around: X,
     )
     where
@@ -64,10 +64,10 @@ impl<R: Wait + Drop + Copy, F: Yields, Q: Drop, M: Drop, A: Wake, B: Allocator +
     // Hands a Runnable to the schedule value that gets the share of this party, which has no handle from then on. A hold keeps the schedule value until the call has returned.
     pub(crate) fn deliver<X: Copy>(
         self,
-        party: &mut Party<F, Kept<F>, AwaiterClone<A>>,
+        party: &mut Party<F, Kept<F>, A>,
         around: X,
         woken_while_running: bool,
-    ) -> Ledger<R, F, Q, M, AwaiterClone<A>, B>
+    ) -> Ledger<R, F, Q, M, A, B>
     where
         Q: Schedule<Runnable<R, F, Q, M, A, X, B>>,
         requires cell { IsOf self party.old × (limit_of party.old ≡ limit_in self) }
@@ -89,12 +89,7 @@ impl<R: Wait + Drop + Copy, F: Yields, Q: Drop, M: Drop, A: Wake, B: Allocator +
     }
 
     // Hands the Runnable of a run over that has ended, which ends the call.
-    pub(crate) fn hand_on<X: Copy>(
-        self,
-        party: &mut Party<F, Kept<F>, AwaiterClone<A>>,
-        around: X,
-        woken: bool,
-    )
+    pub(crate) fn hand_on<X: Copy>(self, party: &mut Party<F, Kept<F>, A>, around: X, woken: bool)
     where
         Q: Schedule<Runnable<R, F, Q, M, A, X, B>>,
         requires cell { IsOf self party.old × (limit_of party.old ≡ limit_in self) }
@@ -107,7 +102,7 @@ impl<R: Wait + Drop + Copy, F: Yields, Q: Drop, M: Drop, A: Wake, B: Allocator +
     }
 
     // Hands a Runnable to the schedule value again, with `woken_while_running` false. It makes no step on the word.
-    pub(crate) fn schedule<X: Copy>(self, party: &mut Party<F, Kept<F>, AwaiterClone<A>>, around: X)
+    pub(crate) fn schedule<X: Copy>(self, party: &mut Party<F, Kept<F>, A>, around: X)
     where
         Q: Schedule<Runnable<R, F, Q, M, A, X, B>>,
         requires cell { IsOf self party.old × (limit_of party.old ≡ limit_in self) }
@@ -123,7 +118,7 @@ impl<R: Wait + Drop + Copy, F: Yields, Q: Drop, M: Drop, A: Wake, B: Allocator +
     pub(crate) fn finish_wake<X: Copy>(
         &self,
         share: Self,
-        mut deliverer: Party<F, Kept<F>, AwaiterClone<A>>,
+        mut deliverer: Party<F, Kept<F>, A>,
         around: X,
     )
     where

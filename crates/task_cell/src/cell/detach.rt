@@ -23,7 +23,7 @@ use task_core::{Schedule, Wake, Yields};
 use task_steps::attempt::TriedOnce;
 use task_steps::common::DroppingOutput;
 use task_steps::places::Content;
-use task_steps::table::{AwaiterClone, Kept};
+use task_steps::table::Kept;
 use task_steps::task::{Detached, Detaching, GivingTaskUp};
 
 impl<R: Drop, F: Yields, Q: Drop, M: Drop, A: Drop, B: Allocator + Copy> Share<R, F, Q, M, A, B> {
@@ -99,11 +99,11 @@ impl<R: Wait + Drop + Copy, F: Yields, Q: Drop, M: Drop, A: Wake, B: Allocator +
     F,
     Q,
     M,
-    AwaiterClone<A>,
+    A,
     B,
 > {
     // The rest of a detach that has taken the output: it is dropped last, after all else of the task that goes.
-    fn leave_unclaimed(self, party: &mut Party<F, Kept<F>, AwaiterClone<A>>)
+    fn leave_unclaimed(self, party: &mut Party<F, Kept<F>, A>)
         requires cell { IsOf self party.old }
         requires party { (z : Slot F _) × StandsWith OutputCloser (work_first z []) party.old × (saw_closed (deeds party.old) ≡ true) }
         ensures { (path : List Deed) × UnclaimedPath path × Did path as_ended party.old party.new }
@@ -119,7 +119,7 @@ impl<R: Wait + Drop + Copy, F: Yields, Q: Drop, M: Drop, A: Wake, B: Allocator +
     }
 
     /// Gives the Task up. An output that nobody claimed is dropped, and an open task without another handle is closed, and scheduled once more.
-    pub fn detach<X: Copy>(self, party: &mut Party<F, Kept<F>, AwaiterClone<A>>, around: X)
+    pub fn detach<X: Copy>(self, party: &mut Party<F, Kept<F>, A>, around: X)
     where
         Q: Schedule<Runnable<R, F, Q, M, A, X, B>>,
         requires cell { IsOf self party.old × (limit_of party.old ≡ limit_in self) }

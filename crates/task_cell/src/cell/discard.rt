@@ -5,7 +5,7 @@ ghost use Rattle.task_core.specs.declared.acts.Act.TheVariants.{DropFuture};
 ghost use Rattle.task_laws.specs.declared.positions.WithoutPoll.TheVariants.{DroppedRunnable};
 ghost use Rattle.task_steps.specs.declared.table.Slot.{Slot};
 ghost use Rattle.task_steps.specs.declared.table.Deed.{Deed};
-ghost use Rattle.task_cell.specs.Woken.{WokeClone};
+ghost use Rattle.task_cell.specs.Woken.{WokeStored};
 ghost use Rattle.task_cell.specs.Calls.{Stands, DidWith};
 ghost use Rattle.task_steps.specs.Deeds.{act};
 ghost use Rattle.task_steps.specs.Standing.{as_runnable};
@@ -20,7 +20,7 @@ use std::alloc::Allocator;
 use task_core::word::CLOSED;
 use task_core::{Wake, Yields};
 use task_steps::run::Discarding;
-use task_steps::table::{AwaiterClone, Kept};
+use task_steps::table::Kept;
 
 impl<R: Drop, F: Yields, Q: Drop, M: Drop, A: Drop, B: Allocator + Copy> Share<R, F, Q, M, A, B> {
     /// Closes the task, takes its future over, and writes down that it is dropped next: a single fetch, never tried again.
@@ -33,19 +33,12 @@ impl<R: Drop, F: Yields, Q: Drop, M: Drop, A: Drop, B: Allocator + Copy> Share<R
     }
 }
 
-impl<R: Drop, F: Yields, Q: Drop, M: Drop, A: Wake, B: Allocator + Copy> Share<
-    R,
-    F,
-    Q,
-    M,
-    AwaiterClone<A>,
-    B,
-> {
+impl<R: Drop, F: Yields, Q: Drop, M: Drop, A: Wake, B: Allocator + Copy> Share<R, F, Q, M, A, B> {
     // Drops a Runnable: the task is closed, its future dropped, and an awaiter that waits is woken. It tries nothing again, and cannot wait but in foreign code.
-    pub(crate) fn discard_runnable(self, party: &mut Party<F, Kept<F>, AwaiterClone<A>>)
+    pub(crate) fn discard_runnable(self, party: &mut Party<F, Kept<F>, A>)
         requires cell { IsOf self party.old }
         requires party { Stands as_runnable party.old }
-        ensures { Discards (WokeClone A.Wake) party.old party.new }
+        ensures { Discards (WokeStored A.woken) party.old party.new }
     {
         self.discard_start(party);
         self.take(party).discard();

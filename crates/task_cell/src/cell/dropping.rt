@@ -13,7 +13,7 @@ use std::alloc::Allocator;
 use std::sync::Wait;
 use task_core::word::REFERENCE;
 use task_core::{Schedule, Wake, Yields};
-use task_steps::table::{AwaiterClone, Kept};
+use task_steps::table::Kept;
 use task_steps::waker::{Dropped, DroppingWaker, dropped_as};
 
 impl<R: Drop, F: Yields, Q: Drop, M: Drop, A: Drop, B: Allocator + Copy> Share<R, F, Q, M, A, B> {
@@ -37,15 +37,11 @@ impl<R: Wait + Drop + Copy, F: Yields, Q: Drop, M: Drop, A: Wake, B: Allocator +
     F,
     Q,
     M,
-    AwaiterClone<A>,
+    A,
     B,
 > {
     // Drops a waker. The last handle of a task that is over empties the slots; the last waker of an open task that nobody else has closes it, and hands a Runnable over that ends it.
-    pub(crate) fn drop_waker<X: Copy>(
-        self,
-        party: &mut Party<F, Kept<F>, AwaiterClone<A>>,
-        around: X,
-    )
+    pub(crate) fn drop_waker<X: Copy>(self, party: &mut Party<F, Kept<F>, A>, around: X)
     where
         Q: Schedule<Runnable<R, F, Q, M, A, X, B>>,
         requires cell { IsOf self party.old × (limit_of party.old ≡ limit_in self) }

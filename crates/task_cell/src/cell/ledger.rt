@@ -11,7 +11,7 @@ ghost use Rattle.task_steps.specs.Deeds.{act};
 ghost use Rattle.task_steps.specs.Held.{held};
 ghost use Rattle.task_steps.specs.Standing.{rest_of, way_of};
 ghost use Rattle.task_steps.specs.Steps.{Makes};
-ghost use Rattle.task_cell.specs.Woken.{WokeClone};
+ghost use Rattle.task_cell.specs.Woken.{WokeStored};
 ghost use Rattle.task_cell.specs.Belongs.{IsBeside};
 ghost use Rattle.task_cell.specs.Calls.{Did, DidWith, MayNote, Stands, StandsWith, places_of, position};
 ghost use Rattle.task_cell.specs.RunCalls.{HasTaken, Wakes};
@@ -25,7 +25,7 @@ use task_steps::Knowing;
 use task_steps::common::{Dropping, Ending, Waking};
 use task_steps::places::Held;
 use task_steps::script::Script;
-use task_steps::table::{AwaiterClone, BlockLedger, Kept, StoredAwaiter};
+use task_steps::table::{BlockLedger, Kept, StoredAwaiter};
 
 /// What notes private acts of the parties of a cell. It has no bytes, and keeps no memory.
 #[derive(Drop)]
@@ -72,16 +72,16 @@ impl<R, F: Yields, Q, M, A, B: Allocator> Ledger<R, F, Q, M, A, B> {
     }
 }
 
-impl<R, F: Yields, Q, M, A: Wake, B: Allocator> Ledger<R, F, Q, M, AwaiterClone<A>, B> {
+impl<R, F: Yields, Q, M, A: Wake, B: Allocator> Ledger<R, F, Q, M, A, B> {
     // Wakes the awaiter that was taken. The act stands in the list before the awaiter is called.
     pub(crate) fn wake_taken(
         &self,
-        party: &mut Party<F, Kept<F>, AwaiterClone<A>>,
-        awaiter: Option<Held<StoredAwaiter<AwaiterClone<A>>>>,
+        party: &mut Party<F, Kept<F>, A>,
+        awaiter: Option<Held<StoredAwaiter<A>>>,
     )
         requires cell { IsBeside self.now party.old }
         requires party { (way : NotifyingCall) × HasTaken way party.old (held awaiter) }
-        ensures { (way : NotifyingCall) → HasTaken way party.old (held awaiter) → Wakes (WokeClone A.Wake) way (held awaiter) party.old party.new }
+        ensures { (way : NotifyingCall) → HasTaken way party.old (held awaiter) → Wakes (WokeStored A.woken) way (held awaiter) party.old party.new }
     {
         if let Some(awaiter) = awaiter {
             self.note_woken(party);

@@ -17,28 +17,23 @@ use std::alloc::Allocator;
 use std::sync::Wait;
 use task_core::word::Word;
 use task_core::{Future, Poll, Schedule, Wake, Yields};
-use task_steps::table::{AwaiterClone, Kept, polled};
+use task_steps::table::{Kept, polled};
 
 impl<R: Wait + Drop + Copy, F: Yields, Q: Drop, M: Drop, A: Wake, B: Allocator + Copy> Share<
     R,
     F,
     Q,
     M,
-    AwaiterClone<A>,
+    A,
     B,
 > {
     // One poll of a run that has started, with a waker that it is lent; what it answers is written down, on the word that is told last. No lock is held,
     // and the future stays in its place.
     pub(crate) fn poll_future<X: Copy>(
         self,
-        party: Party<F, Kept<F>, AwaiterClone<A>>,
+        party: Party<F, Kept<F>, A>,
         around: X,
-    ) -> (
-        Self,
-        Party<F, Kept<F>, AwaiterClone<A>>,
-        Poll<F::Output>,
-        Word,
-    )
+    ) -> (Self, Party<F, Kept<F>, A>, Poll<F::Output>, Word)
     where
         F: Future<TaskWaker<R, F, Q, M, A, X, B>>,
         Q: Schedule<Runnable<R, F, Q, M, A, X, B>>,
@@ -67,15 +62,15 @@ impl<R: Wait + Drop + Copy, F: Yields, Q: Drop, M: Drop, A: Wake, B: Allocator +
     F,
     Q,
     M,
-    AwaiterClone<A>,
+    A,
     B,
 > {
     // Writes down what the poll has answered, so that the party no longer stands where it may poll: the word that was found.
     fn note_answer(
         &self,
-        mut party: Party<F, Kept<F>, AwaiterClone<A>>,
+        mut party: Party<F, Kept<F>, A>,
         answer: &Poll<F::Output>,
-    ) -> (Party<F, Kept<F>, AwaiterClone<A>>, Word)
+    ) -> (Party<F, Kept<F>, A>, Word)
         requires cell { IsOf self.now party }
         requires party { (held : List (ℕ × TaskPlace F _ _)) × StandsWith Polling held party }
         ensures { (held : List (ℕ × TaskPlace F _ _)) → StandsWith Polling held party → NotesAnswer held party result.0 result.1 answer.now }

@@ -8,7 +8,7 @@ ghost use Rattle.task_steps.specs.Stored.{stored_by};
 use super::Party;
 use task_core::Wake;
 use task_steps::places::Held;
-use task_steps::table::{AwaiterClone, StoredAwaiter};
+use task_steps::table::StoredAwaiter;
 
 /// A lent awaiter. It shows no reference to the awaiter, so that a poll wakes it by `wake` alone.
 #[derive(Drop)]
@@ -39,29 +39,28 @@ impl<'a, A: Wake> LentAwaiter<'a, A> {
     // A clone, for the place of the awaiter, by the party of the poll.
     pub(crate) fn try_clone<F, T>(
         &self,
-        party: &Party<F, T, AwaiterClone<A>>,
-    ) -> Result<Held<StoredAwaiter<AwaiterClone<A>>>, A::Record>
+        party: &Party<F, T, A>,
+    ) -> Result<Held<StoredAwaiter<A>>, A::Record>
         requires party { (i : ℕ) × Stands (Registrar i) party.now }
-        ensures cloned { IfOk result (λ clone. A.cloned self.now.awaiter.now (Ok clone.value.awaiter.awaiter)) }
-        ensures lent { IfOk result (λ clone. clone.value.awaiter.lent.value ≡ self.now.awaiter.now) }
+        ensures cloned { IfOk result (λ clone. A.cloned self.now.awaiter.now (Ok clone.value.awaiter)) }
         ensures number { IfOk result (λ clone. stored_by clone.value ≡ poll_number (position party.now)) }
         ensures refused { IfErr result (λ told. A.cloned self.now.awaiter.now (Err told)) }
     {
-        match AwaiterClone::of(self.awaiter) {
+        match self.awaiter.try_clone() {
             Ok(clone) => Ok(party.to_store(clone)),
             Err(told) => Err(told),
         }
     }
 
     // Whether a wake of the awaiter that was taken wakes the caller.
-    pub(crate) fn is_woken_by(&self, taken: &Held<StoredAwaiter<AwaiterClone<A>>>) -> bool
-        ensures { A.compared taken.now.value.awaiter.awaiter self.now.awaiter.now result }
+    pub(crate) fn is_woken_by(&self, taken: &Held<StoredAwaiter<A>>) -> bool
+        ensures { A.compared taken.now.value.awaiter self.now.awaiter.now result }
     {
         taken.will_wake(self.awaiter)
     }
 
     // Wakes the caller, where a notifier has made the clone useless. The record of the wake says so, and is dropped.
-    pub(crate) fn wake<F, T>(&self, once: OneWake, party: &Party<F, T, AwaiterClone<A>>)
+    pub(crate) fn wake<F, T>(&self, once: OneWake, party: &Party<F, T, A>)
         requires party { (i : ℕ) × Stands (UnusedClone i) party.now }
         ensures { (told : A.Record) × A.woken_by_ref self.now.awaiter.now told }
     {

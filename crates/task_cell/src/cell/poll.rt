@@ -24,7 +24,7 @@ use task_core::word::Word;
 use task_core::{TaskPoll, Wake, Yields};
 use task_steps::common::Ending;
 use task_steps::poll::{Looking, LookingAgain, has_ended, has_to_wait};
-use task_steps::table::{AwaiterClone, Kept};
+use task_steps::table::Kept;
 
 impl<R: Drop, F: Yields, Q: Drop, M: Drop, A: Drop, B: Allocator + Copy> Share<R, F, Q, M, A, B> {
     /// Writes down that the poll has ended. It is no step.
@@ -90,15 +90,11 @@ impl<R: Wait + Drop + Copy, F: Yields, Q: Drop, M: Drop, A: Wake, B: Allocator +
     F,
     Q,
     M,
-    AwaiterClone<A>,
+    A,
     B,
 > {
     // Answers ready without output: takes the stored awaiter, and ends the poll.
-    fn answer_closed(
-        &self,
-        party: &mut Party<F, Kept<F>, AwaiterClone<A>>,
-        awaiter: &LentAwaiter<'_, A>,
-    )
+    fn answer_closed(&self, party: &mut Party<F, Kept<F>, A>, awaiter: &LentAwaiter<'_, A>)
         requires cell { IsOf self.now party.old }
         requires party { (i : ℕ) × Stands (Notifier (OfPoll i)) party.old }
         ensures { (taken : List Deed) × TakePath A.woken A.compared awaiter.now.awaiter.now taken × Did (taken ++ (act EndCall ∷ [])) (as_task (poll_number (position party.old))) party.old party.new }
@@ -110,7 +106,7 @@ impl<R: Wait + Drop + Copy, F: Yields, Q: Drop, M: Drop, A: Wake, B: Allocator +
     // Looks again, after the awaiter was registered, and answers by what it finds.
     fn answer(
         &self,
-        party: &mut Party<F, Kept<F>, AwaiterClone<A>>,
+        party: &mut Party<F, Kept<F>, A>,
         awaiter: &LentAwaiter<'_, A>,
     ) -> TaskPoll<Option<Kept<F>>>
         requires cell { IsOf self.now party.old }
@@ -136,7 +132,7 @@ impl<R: Wait + Drop + Copy, F: Yields, Q: Drop, M: Drop, A: Wake, B: Allocator +
     // A poll, of the awaiter as its parts have it.
     fn poll_lent(
         &self,
-        party: &mut Party<F, Kept<F>, AwaiterClone<A>>,
+        party: &mut Party<F, Kept<F>, A>,
         awaiter: &LentAwaiter<'_, A>,
         once: OneWake,
     ) -> TaskPoll<Option<Kept<F>>>
@@ -174,11 +170,7 @@ impl<R: Wait + Drop + Copy, F: Yields, Q: Drop, M: Drop, A: Wake, B: Allocator +
     /// A poll that answers Pending has stored that clone, as the one of its number, or has woken the awaiter, or a clone of it.
     /// A poll registers at most once. It waits for nobody, but tries a step anew where another party changed the word meanwhile.
     /// Once it has answered ready without output, each later poll answers the same.
-    pub fn poll(
-        &self,
-        party: &mut Party<F, Kept<F>, AwaiterClone<A>>,
-        awaiter: &A,
-    ) -> TaskPoll<Option<Kept<F>>>
+    pub fn poll(&self, party: &mut Party<F, Kept<F>, A>, awaiter: &A) -> TaskPoll<Option<Kept<F>>>
         requires cell { IsOf self.now party.old }
         requires party { (n : ℕ) × Stands (as_task n) party.old }
         ensures path { (path : List Deed) × PollPath A.cloned A.woken A.woken_by_ref A.compared awaiter.now path result × Did path (as_task (poll_number (position party.old))) party.old party.new }

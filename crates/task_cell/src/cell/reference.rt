@@ -7,7 +7,7 @@ ghost use Rattle.task_laws.specs.Table.{notifies};
 ghost use Rattle.task_laws.specs.declared.positions.NotifyingCall.TheVariants.{OfRun};
 ghost use Rattle.task_steps.specs.declared.table.Slot.{Slot};
 ghost use Rattle.task_steps.specs.declared.table.Slot.TheVariants.{Empty};
-ghost use Rattle.task_cell.specs.Woken.{WokeClone};
+ghost use Rattle.task_cell.specs.Woken.{WokeStored};
 ghost use Rattle.task_cell.specs.Calls.{Stands, StandsWith, DidWith};
 ghost use Rattle.task_cell.specs.RunCalls.{GivesUp, Releases, Rests};
 ghost use Rattle.task_cell.specs.Belongs.{IsBeside, IsOf, LeavesBy};
@@ -22,7 +22,7 @@ use task_core::word::REFERENCE;
 use task_core::{Wake, Yields};
 use task_steps::places::{Content, take_work};
 use task_steps::run::GivingReferenceUp;
-use task_steps::table::{AwaiterClone, Kept};
+use task_steps::table::Kept;
 use task_steps::waker::is_last;
 
 impl<R: Drop, F: Yields, Q: Drop, M: Drop, A: Drop, B: Allocator + Copy> Share<R, F, Q, M, A, B> {
@@ -67,14 +67,14 @@ impl<R: Wait + Drop + Copy, F: Yields, Q: Drop, M: Drop, A: Wake, B: Allocator +
     F,
     Q,
     M,
-    AwaiterClone<A>,
+    A,
     B,
 > {
     // The rest of a run, after its end step. The awaiter that was taken is woken last.
-    pub(crate) fn finish(self, party: &mut Party<F, Kept<F>, AwaiterClone<A>>, due: bool)
+    pub(crate) fn finish(self, party: &mut Party<F, Kept<F>, A>, due: bool)
         requires cell { IsOf self party.old }
         requires party { Stands (notifies due OfRun) party.old }
-        ensures { Rests (WokeClone A.Wake) due party.old party.new }
+        ensures { Rests (WokeStored A.woken) due party.old party.new }
     {
         let awaiter = self.take_due(party, due);
         let ledger = self.release(party);

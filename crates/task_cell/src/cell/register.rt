@@ -25,7 +25,7 @@ use task_core::{Wake, Yields};
 use task_steps::common::{Dropping, Waking};
 use task_steps::places::{Held, put_awaiter, take_awaiter};
 use task_steps::poll::{BeginningRegister, EndingNotified, EndingRegister, Refusing};
-use task_steps::table::{AwaiterClone, Kept, StoredAwaiter};
+use task_steps::table::{Kept, StoredAwaiter};
 
 impl<F, T, A> Party<F, T, A> {
     /// What the poll of this party is to store.
@@ -144,11 +144,11 @@ impl<R: Wait + Drop + Copy, F: Yields, Q: Drop, M: Drop, A: Wake, B: Allocator +
     F,
     Q,
     M,
-    AwaiterClone<A>,
+    A,
     B,
 > {
     // Takes the awaiter slot, and answers whether it did: it does not where there is a notifier.
-    fn begin_register(&self, party: &mut Party<F, Kept<F>, AwaiterClone<A>>) -> bool
+    fn begin_register(&self, party: &mut Party<F, Kept<F>, A>) -> bool
         requires cell { IsOf self.now party.old }
         requires party { (i : ℕ) × Stands (Registrar i) party.old }
         ensures { BeginsRegister party.old party.new result }
@@ -160,7 +160,7 @@ impl<R: Wait + Drop + Copy, F: Yields, Q: Drop, M: Drop, A: Wake, B: Allocator +
     }
 
     // Gives the awaiter slot back with the clone in it, and answers whether it did: where there is a notifier, the clone is to be taken out again.
-    fn end_register(&self, party: &mut Party<F, Kept<F>, AwaiterClone<A>>) -> bool
+    fn end_register(&self, party: &mut Party<F, Kept<F>, A>) -> bool
         requires cell { IsOf self.now party.old }
         requires party { (i : ℕ) × (clone : _) × StandsWith (Registered i) (awaiter_first (Some clone) []) party.old × (stored_by clone ≡ i) }
         ensures { EndsRegister party.old party.new result }
@@ -174,15 +174,14 @@ impl<R: Wait + Drop + Copy, F: Yields, Q: Drop, M: Drop, A: Wake, B: Allocator +
     // Registers a clone of the caller's awaiter, or wakes one where a notifier came before or meanwhile.
     fn register_clone(
         &self,
-        party: &mut Party<F, Kept<F>, AwaiterClone<A>>,
+        party: &mut Party<F, Kept<F>, A>,
         awaiter: &LentAwaiter<'_, A>,
         once: OneWake,
-        clone: Held<StoredAwaiter<AwaiterClone<A>>>,
+        clone: Held<StoredAwaiter<A>>,
     )
         requires cell { IsOf self.now party.old }
         requires party { (i : ℕ) × Stands (Registrar i) party.old }
-        requires cloned { A.cloned awaiter.now.awaiter.now (Ok clone.value.awaiter.awaiter) }
-        requires lent { clone.value.awaiter.lent.value ≡ awaiter.now.awaiter.now }
+        requires cloned { A.cloned awaiter.now.awaiter.now (Ok clone.value.awaiter) }
         requires number { stored_by clone.value ≡ poll_number (position party.old) }
         ensures { (path : List Deed) × RegisterPath A.cloned A.woken A.woken_by_ref awaiter.now.awaiter.now path × Did path (Looking (poll_number (position party.old))) party.old party.new × Registration A.Wake awaiter.now.awaiter.now party.old party.new }
     {
@@ -203,7 +202,7 @@ impl<R: Wait + Drop + Copy, F: Yields, Q: Drop, M: Drop, A: Wake, B: Allocator +
     // Registers the caller's awaiter, and answers whether it did: a clone that is refused ends the poll.
     pub(crate) fn register(
         &self,
-        party: &mut Party<F, Kept<F>, AwaiterClone<A>>,
+        party: &mut Party<F, Kept<F>, A>,
         awaiter: &LentAwaiter<'_, A>,
         once: OneWake,
     ) -> bool

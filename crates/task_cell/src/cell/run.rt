@@ -8,7 +8,7 @@ ghost use Rattle.task_core.specs.declared.acts.Act.TheVariants.{AnswerReady, Dro
 ghost use Rattle.task_laws.specs.Table.{notifies};
 ghost use Rattle.task_steps.specs.declared.table.Slot.{Slot};
 ghost use Rattle.task_steps.specs.declared.table.Slot.TheVariants.{Empty};
-ghost use Rattle.task_cell.specs.Woken.{WokeClone};
+ghost use Rattle.task_cell.specs.Woken.{WokeStored};
 ghost use Rattle.task_cell.specs.Handed.{HandedOver};
 ghost use Rattle.task_cell.specs.Calls.{StandsWith, Did, DidWith, position, limit_of};
 ghost use Rattle.task_steps.specs.Deeds.{row, act};
@@ -25,7 +25,7 @@ use task_core::word::{SCHEDULED, Word};
 use task_core::{Schedule, Wake, Yields};
 use task_steps::places::Held;
 use task_steps::run::{PendingEnd, Unscheduling, keeps_output};
-use task_steps::table::{AwaiterClone, Kept};
+use task_steps::table::Kept;
 
 impl<R: Drop, F: Yields, Q: Drop, M: Drop, A: Drop, B: Allocator + Copy> Share<R, F, Q, M, A, B> {
     /// Clears SCHEDULED, of a task whose future was dropped: a single fetch, never tried again. The word that was found.
@@ -71,14 +71,14 @@ impl<R: Wait + Drop + Copy, F: Yields, Q: Drop, M: Drop, A: Wake, B: Allocator +
     F,
     Q,
     M,
-    AwaiterClone<A>,
+    A,
     B,
 > {
     // A run of a task that was closed before, from where it has taken the future over, and has written down that it drops it.
-    pub(crate) fn close_run(self, party: &mut Party<F, Kept<F>, AwaiterClone<A>>)
+    pub(crate) fn close_run(self, party: &mut Party<F, Kept<F>, A>)
         requires cell { IsOf self party.old }
         requires party { (y : Slot F _) × StandsWith (FutureGone ClosedRun) (work_first y []) party.old }
-        ensures { Closes (WokeClone A.Wake) party.old party.new }
+        ensures { Closes (WokeStored A.woken) party.old party.new }
     {
         self.take(party).discard();
         let found = self.unschedule(party);
@@ -86,10 +86,10 @@ impl<R: Wait + Drop + Copy, F: Yields, Q: Drop, M: Drop, A: Wake, B: Allocator +
     }
 
     // A run of a task that was closed meanwhile, from where its poll answered Pending.
-    pub(crate) fn finish_cleared(self, party: &mut Party<F, Kept<F>, AwaiterClone<A>>)
+    pub(crate) fn finish_cleared(self, party: &mut Party<F, Kept<F>, A>)
         requires cell { IsOf self party.old }
         requires party { (y : Slot F _) × StandsWith PendingFutureDropped (work_first y []) party.old }
-        ensures { ClosesPending (WokeClone A.Wake) party.old party.new }
+        ensures { ClosesPending (WokeStored A.woken) party.old party.new }
     {
         let found = self.end_closed(party);
         self.finish(party, found.awaiter());
@@ -101,19 +101,15 @@ impl<R: Wait + Drop + Copy, F: Yields, Q: Drop, M: Drop, A: Wake, B: Allocator +
     F,
     Q,
     M,
-    AwaiterClone<A>,
+    A,
     B,
 > {
     // A run, from where its poll has answered Ready, as the party that polled.
-    pub(crate) fn finish_ready(
-        self,
-        party: &mut Party<F, Kept<F>, AwaiterClone<A>>,
-        output: Held<Kept<F>>,
-    )
+    pub(crate) fn finish_ready(self, party: &mut Party<F, Kept<F>, A>, output: Held<Kept<F>>)
         requires cell { IsOf self party.old }
         requires party { (y : Slot F _) × StandsWith ReadyFutureDropped (work_first y []) party.old }
         requires yielded { HasYielded self output.value.output }
-        ensures { (p : _) (y : Slot F _) → DidWith (act AnswerReady ∷ act DropFuture ∷ []) ReadyFutureDropped (work_first y []) p party.old → EndsReady (WokeClone A.Wake) p party.new }
+        ensures { (p : _) (y : Slot F _) → DidWith (act AnswerReady ∷ act DropFuture ∷ []) ReadyFutureDropped (work_first y []) p party.old → EndsReady (WokeStored A.woken) p party.new }
     {
         self.take(party).discard();
         let found = self.store_output(party, output);
@@ -123,7 +119,7 @@ impl<R: Wait + Drop + Copy, F: Yields, Q: Drop, M: Drop, A: Wake, B: Allocator +
     // A run, from where its poll has answered Pending on the word `found`. Whether the task was woken meanwhile.
     pub(crate) fn finish_pending<X: Copy>(
         self,
-        party: &mut Party<F, Kept<F>, AwaiterClone<A>>,
+        party: &mut Party<F, Kept<F>, A>,
         found: Word,
         around: X,
     ) -> bool
@@ -132,7 +128,7 @@ impl<R: Wait + Drop + Copy, F: Yields, Q: Drop, M: Drop, A: Wake, B: Allocator +
         requires cell { IsOf self party.old × (limit_of party.old ≡ limit_in self) }
         requires room { HasRoom found }
         requires party { (p : _) × (y : Slot F _) × AnswersPending (work_first y []) p party.old found.closed × IsFuture (values_in self) y }
-        ensures { (p : _) (y : Slot F _) → AnswersPending (work_first y []) p party.old found.closed → EndsUnready (WokeClone A.Wake) (HandedOver Q.scheduled (cell_of self) around) result p party.new }
+        ensures { (p : _) (y : Slot F _) → AnswersPending (work_first y []) p party.old found.closed → EndsUnready (WokeStored A.woken) (HandedOver Q.scheduled (cell_of self) around) result p party.new }
     {
         if found.closed() {
             self.finish_cleared(party);

@@ -11,7 +11,7 @@ use super::{EndedCall, Party, Runnable, Share};
 use std::alloc::{Allocator, Global};
 use std::sync::Wait;
 use task_core::{Schedule, Wake, Yields};
-use task_steps::table::{AwaiterClone, Kept};
+use task_steps::table::Kept;
 
 /// What a waker holds.
 pub(crate) enum Hold<F, T, A> {
@@ -129,7 +129,7 @@ pub struct TaskWaker<
 where
     Q: Schedule<Runnable<R, F, Q, M, A, X, B>>,
 {
-    pub(crate) inner: WakerSeat<R, F, Q, M, AwaiterClone<A>, B>,
+    pub(crate) inner: WakerSeat<R, F, Q, M, A, B>,
     pub(crate) around: X,
 }
 
@@ -156,7 +156,7 @@ where
     Q: Schedule<Runnable<R, F, Q, M, A, X, B>>,
 {
     // What the waker is made of.
-    pub(crate) fn into_parts(self) -> (WakerSeat<R, F, Q, M, AwaiterClone<A>, B>, X)
+    pub(crate) fn into_parts(self) -> (WakerSeat<R, F, Q, M, A, B>, X)
         ensures inner { result.0 ≡ self.inner }
         ensures around { result.1 ≡ self.around }
     {

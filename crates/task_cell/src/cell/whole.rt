@@ -7,7 +7,7 @@ ghost use Rattle.task_steps.specs.declared.table.Deed.{Deed};
 ghost use Rattle.task_steps.specs.declared.table.Slot.{Slot};
 ghost use Rattle.task_steps.specs.Rule.{IsFuture};
 ghost use Rattle.task_steps.specs.Steps.{work_first};
-ghost use Rattle.task_cell.specs.Woken.{WokeClone};
+ghost use Rattle.task_cell.specs.Woken.{WokeStored};
 ghost use Rattle.task_cell.specs.Handed.{HandedOver, PolledOnce};
 ghost use Rattle.task_cell.specs.Calls.{Stands, StandsWith, Did, DidWith, limit_of};
 ghost use Rattle.task_core.specs.declared.acts.Act.TheVariants.{AnswerReady, DropFuture};
@@ -24,14 +24,14 @@ use std::sync::Wait;
 use task_core::word::Word;
 use task_core::{Future, Poll, Schedule, Wake, Yields};
 use task_steps::places::Held;
-use task_steps::table::{AwaiterClone, Kept};
+use task_steps::table::Kept;
 
 impl<R: Wait + Drop + Copy, F: Yields, Q: Drop, M: Drop, A: Wake, B: Allocator + Copy> Share<
     R,
     F,
     Q,
     M,
-    AwaiterClone<A>,
+    A,
     B,
 > {
     // Runs the task once. A task that was closed is not polled: its future is dropped. Otherwise the future is polled once, and the run ends by what it answered. The share goes with the run, or on with the Runnable that the run hands over.
@@ -39,15 +39,15 @@ impl<R: Wait + Drop + Copy, F: Yields, Q: Drop, M: Drop, A: Wake, B: Allocator +
     // True where the task was woken meanwhile, and its Runnable was handed to the schedule value.
     pub(crate) fn run<X: Copy>(
         self,
-        party: Party<F, Kept<F>, AwaiterClone<A>>,
+        party: Party<F, Kept<F>, A>,
         around: X,
-    ) -> (Party<F, Kept<F>, AwaiterClone<A>>, bool)
+    ) -> (Party<F, Kept<F>, A>, bool)
     where
         F: Future<TaskWaker<R, F, Q, M, A, X, B>>,
         Q: Schedule<Runnable<R, F, Q, M, A, X, B>>,
         requires cell { IsOf self party × (limit_of party ≡ limit_in self) }
         requires party { Stands as_runnable party }
-        ensures path { (path : List Deed) × RunPath (PolledOnce F.polled (spawned_in self) (cell_of self) around) (WokeClone A.Wake) (HandedOver Q.scheduled (cell_of self) around) result.1 path × Did path as_ended party result.0 }
+        ensures path { (path : List Deed) × RunPath (PolledOnce F.polled (spawned_in self) (cell_of self) around) (WokeStored A.woken) (HandedOver Q.scheduled (cell_of self) around) result.1 path × Did path as_ended party result.0 }
     {
         let (party, started) = self.begin_run(party);
         if !started {
@@ -70,13 +70,10 @@ impl<R: Wait + Drop + Copy, F: Yields, Q: Drop, M: Drop, A: Wake, B: Allocator +
     F,
     Q,
     M,
-    AwaiterClone<A>,
+    A,
     B,
 > {
-    fn begin_run(
-        &self,
-        mut party: Party<F, Kept<F>, AwaiterClone<A>>,
-    ) -> (Party<F, Kept<F>, AwaiterClone<A>>, bool)
+    fn begin_run(&self, mut party: Party<F, Kept<F>, A>) -> (Party<F, Kept<F>, A>, bool)
         requires cell { IsOf self.now party }
         requires party { Stands as_runnable party }
         ensures { TakesUp (values_in self.now) party result.0 result.1 }
@@ -85,13 +82,10 @@ impl<R: Wait + Drop + Copy, F: Yields, Q: Drop, M: Drop, A: Wake, B: Allocator +
         (party, started)
     }
 
-    fn end_closed_run(
-        self,
-        mut party: Party<F, Kept<F>, AwaiterClone<A>>,
-    ) -> Party<F, Kept<F>, AwaiterClone<A>>
+    fn end_closed_run(self, mut party: Party<F, Kept<F>, A>) -> Party<F, Kept<F>, A>
         requires cell { IsOf self party }
         requires party { (y : Slot F _) × StandsWith (FutureGone ClosedRun) (work_first y []) party }
-        ensures { Closes (WokeClone A.Wake) party result }
+        ensures { Closes (WokeStored A.woken) party result }
     {
         self.close_run(&mut party);
         party
@@ -99,13 +93,13 @@ impl<R: Wait + Drop + Copy, F: Yields, Q: Drop, M: Drop, A: Wake, B: Allocator +
 
     fn end_ready_run(
         self,
-        mut party: Party<F, Kept<F>, AwaiterClone<A>>,
+        mut party: Party<F, Kept<F>, A>,
         output: Held<Kept<F>>,
-    ) -> Party<F, Kept<F>, AwaiterClone<A>>
+    ) -> Party<F, Kept<F>, A>
         requires cell { IsOf self party }
         requires party { (y : Slot F _) × StandsWith ReadyFutureDropped (work_first y []) party }
         requires yielded { HasYielded self output.value.output }
-        ensures { (p : _) (y : Slot F _) → DidWith (act AnswerReady ∷ act DropFuture ∷ []) ReadyFutureDropped (work_first y []) p party → EndsReady (WokeClone A.Wake) p result }
+        ensures { (p : _) (y : Slot F _) → DidWith (act AnswerReady ∷ act DropFuture ∷ []) ReadyFutureDropped (work_first y []) p party → EndsReady (WokeStored A.woken) p result }
     {
         self.finish_ready(&mut party, output);
         party
@@ -113,16 +107,16 @@ impl<R: Wait + Drop + Copy, F: Yields, Q: Drop, M: Drop, A: Wake, B: Allocator +
 
     fn end_pending_run<X: Copy>(
         self,
-        mut party: Party<F, Kept<F>, AwaiterClone<A>>,
+        mut party: Party<F, Kept<F>, A>,
         found: Word,
         around: X,
-    ) -> (Party<F, Kept<F>, AwaiterClone<A>>, bool)
+    ) -> (Party<F, Kept<F>, A>, bool)
     where
         Q: Schedule<Runnable<R, F, Q, M, A, X, B>>,
         requires cell { IsOf self party × (limit_of party ≡ limit_in self) }
         requires room { HasRoom found }
         requires party { (p : _) × (y : Slot F _) × AnswersPending (work_first y []) p party found.closed × IsFuture (values_in self) y }
-        ensures { (p : _) (y : Slot F _) → AnswersPending (work_first y []) p party found.closed → EndsUnready (WokeClone A.Wake) (HandedOver Q.scheduled (cell_of self) around) result.1 p result.0 }
+        ensures { (p : _) (y : Slot F _) → AnswersPending (work_first y []) p party found.closed → EndsUnready (WokeStored A.woken) (HandedOver Q.scheduled (cell_of self) around) result.1 p result.0 }
     {
         let woken = self.finish_pending(&mut party, found, around);
         (party, woken)

@@ -9,12 +9,11 @@ use crate::cell::{Runnable, RunnableSeat, TaskWaker};
 use std::alloc::{Allocator, Global};
 use std::sync::Wait;
 use task_core::{Schedule, Wake, Yields};
-use task_steps::table::AwaiterClone;
 
 /// A Runnable without the surroundings. It counts as the Runnable, and can't be dropped: it is unparked.
 #[must_use]
-pub struct ParkedRunnable<R, F: Yields, Q, M, A: Wake, B: Allocator + Copy = Global> {
-    pub(crate) inner: RunnableSeat<R, F, Q, M, AwaiterClone<A>, B>,
+pub struct ParkedRunnable<R, F: Yields, Q, M, A, B: Allocator + Copy = Global> {
+    pub(crate) inner: RunnableSeat<R, F, Q, M, A, B>,
 }
 
 impl<
@@ -44,8 +43,8 @@ impl<
 
 /// A waker without the surroundings. It counts as the waker, and can't be dropped: it is unparked.
 #[must_use]
-pub struct ParkedWaker<R, F: Yields, Q, M, A: Wake, B: Allocator + Copy = Global> {
-    pub(crate) inner: WakerSeat<R, F, Q, M, AwaiterClone<A>, B>,
+pub struct ParkedWaker<R, F: Yields, Q, M, A, B: Allocator + Copy = Global> {
+    pub(crate) inner: WakerSeat<R, F, Q, M, A, B>,
 }
 
 impl<R: Wait + Drop + Copy, F: Yields, Q: Drop, M: Drop, A: Wake, B: Allocator + Copy> ParkedWaker<

@@ -1,7 +1,7 @@
 //! The calls of a Runnable.
 ghost use Rattle.std.specs.Prelude.{◌≡◌, IfOk, IfErr, List, [], true, false};
 ghost use Rattle.task_steps.specs.declared.table.Deed.{Deed};
-ghost use Rattle.task_cell.specs.Woken.{WokeClone};
+ghost use Rattle.task_cell.specs.Woken.{WokeStored};
 ghost use Rattle.task_cell.specs.Handed.{HandedOver, PolledOnce};
 ghost use Rattle.task_cell.specs.RunCalls.{Discards};
 ghost use Rattle.task_cell.specs.RunPaths.{RunPath};
@@ -19,7 +19,7 @@ use std::alloc::Allocator;
 use std::sync::Wait;
 use task_core::word::Word;
 use task_core::{Future, Schedule, Wake, Yields};
-use task_steps::table::{AwaiterClone, Kept};
+use task_steps::table::Kept;
 
 impl<
     R: Wait + Drop + Copy,
@@ -53,9 +53,7 @@ impl<
     }
 
     /// A waker of the task, which holds a reference. Where the count of references is at the limit, nothing has changed, and the error is the record of the call, which says so.
-    pub fn waker(
-        &self,
-    ) -> Result<TaskWaker<R, F, Q, M, A, X, B>, EndedCall<F, Kept<F>, AwaiterClone<A>>>
+    pub fn waker(&self) -> Result<TaskWaker<R, F, Q, M, A, X, B>, EndedCall<F, Kept<F>, A>>
     where
         Q: Schedule<Runnable<R, F, Q, M, A, X, B>>,
         ensures cell { IfOk result (λ waker. cell_of waker.inner.share ≡ cell_of self.now.inner.share) }
@@ -72,8 +70,8 @@ impl<
     }
 
     /// Does what a drop does: the task is closed, its future is dropped, and an awaiter that waits is woken.
-    pub fn discard(self) -> EndedCall<F, Kept<F>, AwaiterClone<A>>
-        ensures path { Discards (WokeClone A.Wake) self.inner.party result.party }
+    pub fn discard(self) -> EndedCall<F, Kept<F>, A>
+        ensures path { Discards (WokeStored A.woken) self.inner.party result.party }
     {
         let (inner, _) = self.into_parts();
         let (share, mut party) = inner.into_party();
@@ -112,11 +110,11 @@ impl<
     }
 
     /// Runs the task once: polls its future, unless the task was closed. True where the task was woken meanwhile and its Runnable was handed to the schedule value. The record says which path the run took, also where the answer is false.
-    pub fn run(self) -> (bool, EndedCall<F, Kept<F>, AwaiterClone<A>>)
+    pub fn run(self) -> (bool, EndedCall<F, Kept<F>, A>)
     where
         F: Future<TaskWaker<R, F, Q, M, A, X, B>>,
         Q: Schedule<Runnable<R, F, Q, M, A, X, B>>,
-        ensures path { (path : List Deed) × RunPath (PolledOnce F.polled (spawned_in self.inner.share) (cell_of self.inner.share) self.around) (WokeClone A.Wake) (HandedOver Q.scheduled (cell_of self.inner.share) self.around) result.0 path × Did path as_ended self.inner.party result.1.party }
+        ensures path { (path : List Deed) × RunPath (PolledOnce F.polled (spawned_in self.inner.share) (cell_of self.inner.share) self.around) (WokeStored A.woken) (HandedOver Q.scheduled (cell_of self.inner.share) self.around) result.0 path × Did path as_ended self.inner.party result.1.party }
     {
         let (inner, around) = self.into_parts();
         let (share, party) = inner.into_party();

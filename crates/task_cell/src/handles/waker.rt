@@ -18,7 +18,7 @@ use std::alloc::Allocator;
 use std::sync::Wait;
 use task_core::word::Word;
 use task_core::{Schedule, Wake, Yields};
-use task_steps::table::{AwaiterClone, Kept};
+use task_steps::table::Kept;
 
 impl<
     R: Wait + Drop + Copy,
@@ -33,7 +33,7 @@ where
     Q: Schedule<Runnable<R, F, Q, M, A, X, B>>,
 {
     /// Wakes the task, and gives the waker up: `wake_by_ref`, and then a drop. By a waker whose surroundings are `()` it cancels the task where the schedule value drops Runnables without an executor.
-    pub fn wake(self) -> EndedCall<F, Kept<F>, AwaiterClone<A>>
+    pub fn wake(self) -> EndedCall<F, Kept<F>, A>
         ensures path { WokeBy Q.scheduled self result.party }
         ensures given_up { WasGivenUp Q.scheduled self }
     {
@@ -43,7 +43,7 @@ where
     }
 
     /// Wakes the task. A task that is over stays as it is; one that is scheduled will be polled after this call; one that runs is scheduled once more by its run; and of one that is idle, a Runnable is handed to the schedule value, with `woken_while_running` false and the surroundings of this waker. Where these are `()`, and the schedule value drops such Runnables, the task is cancelled.
-    pub fn wake_by_ref(&self) -> EndedCall<F, Kept<F>, AwaiterClone<A>>
+    pub fn wake_by_ref(&self) -> EndedCall<F, Kept<F>, A>
         ensures path { WokeBy Q.scheduled self.now result.party }
     {
         match self.inner.share.wake_once() {
@@ -55,11 +55,7 @@ where
     // A wake whose first try has missed, and has left this word. It stands apart, so that a wake that is made at once calls nothing that may wait, but the schedule value.
     #[cold]
     #[inline(never)]
-    fn wake_again(
-        &self,
-        mut party: Party<F, Kept<F>, AwaiterClone<A>>,
-        word: Word,
-    ) -> EndedCall<F, Kept<F>, AwaiterClone<A>>
+    fn wake_again(&self, mut party: Party<F, Kept<F>, A>, word: Word) -> EndedCall<F, Kept<F>, A>
         requires cell { IsOf self.now.inner.share party × (limit_of party ≡ limit_in self.now.inner.share) }
         requires party { (p : _) × HasMade self.now.inner.share [] p × Sees word p party }
         ensures path { WokeBy Q.scheduled self.now result.party }
@@ -72,14 +68,9 @@ where
     #[inline(always)]
     fn end_wake(
         &self,
-        party: Party<F, Kept<F>, AwaiterClone<A>>,
-        woken: Option<
-            (
-                Share<R, F, Q, M, AwaiterClone<A>, B>,
-                Party<F, Kept<F>, AwaiterClone<A>>,
-            ),
-        >,
-    ) -> EndedCall<F, Kept<F>, AwaiterClone<A>>
+        party: Party<F, Kept<F>, A>,
+        woken: Option<(Share<R, F, Q, M, A, B>, Party<F, Kept<F>, A>)>,
+    ) -> EndedCall<F, Kept<F>, A>
         requires party { (p : _) × HasMade self.now.inner.share [] p × WakesTask p party (second woken) }
         requires share { IfSome woken (λ made. cell_of made.0 ≡ cell_of self.now.inner.share) }
         ensures path { WokeBy Q.scheduled self.now result.party }
@@ -101,7 +92,7 @@ where
     }
 
     /// One more waker of the same task, which holds a reference. Where the count of references is at the limit, nothing has changed, and the error is the record of the call, which says so.
-    pub fn try_clone(&self) -> Result<Self, EndedCall<F, Kept<F>, AwaiterClone<A>>>
+    pub fn try_clone(&self) -> Result<Self, EndedCall<F, Kept<F>, A>>
         ensures cell { IfOk result (λ waker. cell_of waker.inner.share ≡ cell_of self.now.inner.share) }
         ensures around { IfOk result (λ waker. waker.around ≡ self.now.around) }
         ensures owned { IfOk result (λ waker. is_owned waker.inner.hold ≡ true) }
@@ -131,7 +122,7 @@ where
     }
 
     /// Does what a drop does: gives the reference up. The last handle of a detached task that is open closes it, and hands its Runnable over. `None` of the waker that a poll is lent, which holds no reference, and is never dropped: its run takes it back.
-    pub fn discard(self) -> Option<EndedCall<F, Kept<F>, AwaiterClone<A>>>
+    pub fn discard(self) -> Option<EndedCall<F, Kept<F>, A>>
         ensures path { IfSome result (λ ended. (path : List Deed) × WakerDropPath (HandedOver Q.scheduled (cell_of self.inner.share) self.around false) path × HasEnded self.inner.share path ended.party) }
         ensures owned { is_owned self.inner.hold ≡ true → is_some result ≡ true }
     {
@@ -187,7 +178,7 @@ impl<R: Wait + Drop + Copy, F: Yields, Q: Drop, M: Drop, A: Wake, X: Copy, B: Al
 where
     Q: Schedule<Runnable<R, F, Q, M, A, X, B>>,
 {
-    type Record = EndedCall<F, Kept<F>, AwaiterClone<A>>;
+    type Record = EndedCall<F, Kept<F>, A>;
 
     ghost woken = { λ waker ended. WokeBy Q.scheduled waker ended.party × WasGivenUp Q.scheduled waker };
 
@@ -197,15 +188,15 @@ where
 
     ghost compared = { λ _ _ answer. answer ≡ false };
 
-    fn wake(self) -> EndedCall<F, Kept<F>, AwaiterClone<A>> {
+    fn wake(self) -> EndedCall<F, Kept<F>, A> {
         TaskWaker::wake(self)
     }
 
-    fn wake_by_ref(&self) -> EndedCall<F, Kept<F>, AwaiterClone<A>> {
+    fn wake_by_ref(&self) -> EndedCall<F, Kept<F>, A> {
         TaskWaker::wake_by_ref(self)
     }
 
-    fn try_clone(&self) -> Result<Self, EndedCall<F, Kept<F>, AwaiterClone<A>>> {
+    fn try_clone(&self) -> Result<Self, EndedCall<F, Kept<F>, A>> {
         TaskWaker::try_clone(self)
     }
 

@@ -1,4 +1,0 @@
-use Rattle.task_steps.proofs.places.Held+StoredAwaiter+AwaiterClone+A.wake.Goals as goal
-
-pub returns : goal.returns
-returns g c = (c.wake.result, c.wake.ensures)
