@@ -10,6 +10,7 @@ ghost use Rattle.work_queues.specs.Settled.{OwesNothing};
 
 use crate::bell_awaiter::BellAwaiter;
 use crate::due::{DueRunnable, cancel_all};
+use crate::ending::Filled;
 use crate::errors::TurnsError;
 use crate::kept::{collect, wake_posted};
 use crate::pool::{Place, Pool, PoolRunnable, PoolWaker};
@@ -57,10 +58,9 @@ impl<'x, R: Wait + Drop + Copy, F: Yields, A: Wake, B: Allocator, M: Drop> Drop
         // The next turns of this number begin with it.
         pool.numbers.show(number, earlier, worker.counts());
         cancel_all(pool.crew.end_turns(&pool.rt, worker));
-        // A shutdown may have passed both queues before this worker moved Runnables there.
-        if pool.is_shut_down() {
-            pool.cancel_queue(number);
-            pool.cancel_queue(pool.workers());
+        // This worker may have moved Runnables to both queues.
+        for queue in [number, pool.workers()] {
+            let _ = pool.look_again(Filled { queue });
         }
     }
 }
