@@ -6,6 +6,7 @@ pub mod StoreParts
 pub mod Keys
 pub mod Hands
 pub mod Looks
+pub mod Members
 pub mod Numbers
 pub mod Wakes
 pub mod Desks

@@ -1,6 +1,6 @@
 //! Turns that end at a deadline: so a worker with nothing to do can drive timers.
 ghost use Rattle.std.specs.Prelude.{◌≡◌, [], IfSome, IsNone};
-ghost use Rattle.executor.specs.Hands.{ComesFirst};
+ghost use Rattle.executor.specs.Hands.{HandsOut};
 ghost use Rattle.work_queues.specs.Settled.{OwesNothing};
 
 use crate::pool::PoolRunnable;
@@ -40,9 +40,7 @@ impl<'x, R: Wait + Clock + Drop + Copy, F: Yields, A: Wake, B: Allocator + Copy,
         interruptions: u64,
         deadline: Instant,
     ) -> Option<PoolRunnable<'x, R, F, A, B, M>>
-        ensures place { IfSome result (λ runnable. runnable.around.1 ≡ self.old.worker.number) }
-        ensures first { ComesFirst (λ queued runnable. runnable.inner ≡ queued.parked.inner) self.old.worker.batch.items result self.new.worker.batch.items }
-        ensures hands { IsNone result → self.new.worker.batch.items ≡ [] }
+        ensures handed { HandsOut self.old.worker result self.new.worker }
         ensures settled { OwesNothing self.new.worker }
     {
         let limit = Deadline {

@@ -14,7 +14,7 @@ use work_queues::bells::NothingShown;
 
 /// A queue was filled, which a shutdown may have passed before. It has no `Drop`, so it ends in `Pool::look_again`.
 pub(crate) struct Filled {
-    queue: usize,
+    pub(crate) queue: usize,
 }
 
 /// What a queue had was cancelled. Only `Pool::cancel_queue` makes one.
@@ -69,7 +69,7 @@ impl<R: Wait + Drop + Copy, F: Yields, A: Wake, B: Allocator + Copy, M: Drop> Po
 impl<R: Wait + Drop + Copy, F: Yields, A: Wake, B: Allocator, M: Drop> Pool<R, F, A, B, M> {
     /// Whether the pool was shut down. The word is shared, so no clause says what it shows.
     pub fn is_shut_down(&self) -> bool {
-        self.stage.is_shut_down()
+        self.stage.look().is_none()
     }
 
     // Whether a worker ends that has found nothing: no task is taken any more, and nothing is queued or posted.
@@ -108,7 +108,7 @@ impl<R: Wait + Drop + Copy, F: Yields, A: Wake, B: Allocator, M: Drop> Pool<R, F
     }
 
     // Cancels the Runnables of a queue. As of `Crew::pop`, no clause says which were there.
-    pub(crate) fn cancel_queue(&self, queue: usize) -> QueueCancelled
+    fn cancel_queue(&self, queue: usize) -> QueueCancelled
         ensures { result.queue ≡ queue }
     {
         let mut cancelled = 0usize;

@@ -1,12 +1,12 @@
 //! The calls that run tasks, for functions that are generic in the runtime.
 //!
 //! A method of a pool or of its turns has a bound on the future that names the lifetime of the pool. So it asks of a generic caller that the runtime lives as long, and the prover does not find that. These calls know a pool and its turns by bounds that name no lifetime, and ask nothing.
-ghost use Rattle.std.specs.Prelude.{◌≡◌, ◌≢◌, ◌≤◌, ◌↔◌, ℕ, true, false, [], OnErr};
+ghost use Rattle.std.specs.Prelude.{◌≡◌, ◌≢◌, ◌≤◌, ◌↔◌, ℕ, true, []};
 ghost use Rattle.std.specs.Arc.{arc_value};
 ghost use Rattle.slab.specs.Slab.{slab_len};
 ghost use Rattle.executor_parts.specs.Answered.{answer_of};
-ghost use Rattle.executor_parts.specs.Members.{Leaves, SameMembers, IfNext, is_over};
-ghost use Rattle.executor_parts.specs.Outputs.{CameFrom, NoneGivesMore};
+ghost use Rattle.executor_parts.specs.Members.{is_over};
+ghost use Rattle.executor.specs.Members.{TakesMember};
 ghost use Rattle.work_queues.specs.Settled.{OwesNothing};
 
 use crate::bell_awaiter::BellAwaiter;
@@ -86,14 +86,9 @@ where
         &mut self,
         group: &mut TaskGroup<R, F, ToPool, M, BellAwaiter<R>, X>,
     ) -> Result<Option<Ended<F>>, NextMemberError>
-        ensures over { is_over result ≡ true → slab_len group.old.members ≡ 0 }
-        ensures empty { slab_len group.old.members ≡ 0 → is_over result ≡ true }
-        ensures leaves { IfNext result (λ ended. Leaves group.old.members group.new.members ended.number) }
-        ensures gives { IfNext result (CameFrom group.old.members) }
-        ensures none_more { NoneGivesMore group.old.members group.new.members }
-        ensures refused { OnErr result (SameMembers group.old.members group.new.members) }
+        ensures over { is_over result ≡ true ↔ slab_len group.old.members ≡ 0 }
+        ensures takes { TakesMember group.old.members result group.new.members }
         ensures no_deadline { result ≢ Err NextMemberError.Elapsed }
-        ensures room { group.new.members.capacity ≡ group.old.members.capacity }
         ensures settled { settled self.new };
 }
 
@@ -155,14 +150,9 @@ pub fn next_member<
 ) -> Result<Option<Ended<F>>, NextMemberError>
 where
     ToPool: Schedule<Runnable<R, F, ToPool, M, BellAwaiter<R>, X>>,
-    ensures over { is_over result ≡ true → slab_len group.old.members ≡ 0 }
-    ensures empty { slab_len group.old.members ≡ 0 → is_over result ≡ true }
-    ensures leaves { IfNext result (λ ended. Leaves group.old.members group.new.members ended.number) }
-    ensures gives { IfNext result (CameFrom group.old.members) }
-    ensures none_more { NoneGivesMore group.old.members group.new.members }
-    ensures refused { OnErr result (SameMembers group.old.members group.new.members) }
+    ensures over { is_over result ≡ true ↔ slab_len group.old.members ≡ 0 }
+    ensures takes { TakesMember group.old.members result group.new.members }
     ensures no_deadline { result ≢ Err NextMemberError.Elapsed }
-    ensures room { group.new.members.capacity ≡ group.old.members.capacity }
     ensures settled { W.settled turns.new }
 {
     turns.wait_for_member(group)

@@ -1,8 +1,8 @@
 //! Groups of tasks of a pool: a worker that waits for the next member that ends.
-ghost use Rattle.std.specs.Prelude.{◌≡◌, ◌≢◌, true, false, IfSome, IsNone, OnErr};
+ghost use Rattle.std.specs.Prelude.{◌≡◌, ◌≢◌, ◌↔◌, true};
 ghost use Rattle.slab.specs.Slab.{slab_len};
-ghost use Rattle.executor_parts.specs.Members.{Leaves, SameMembers, IfNext, is_over};
-ghost use Rattle.executor_parts.specs.Outputs.{CameFrom, NoneGivesMore};
+ghost use Rattle.executor_parts.specs.Members.{is_over};
+ghost use Rattle.executor.specs.Members.{TakesMember};
 ghost use Rattle.work_queues.specs.Settled.{OwesNothing};
 
 use crate::bell_awaiter::BellAwaiter;
@@ -42,14 +42,9 @@ impl<'x, R: Wait + Drop + Copy, F: Yields, B: Allocator + Copy, M: Drop> Turns<
     ) -> Result<Option<Ended<F>>, NextMemberError>
     where
         F: Future<PoolWaker<'x, R, F, BellAwaiter<R>, B, M>>,
-        ensures over { is_over result ≡ true → slab_len group.old.members ≡ 0 }
-        ensures empty { slab_len group.old.members ≡ 0 → is_over result ≡ true }
-        ensures leaves { IfNext result (λ ended. Leaves group.old.members group.new.members ended.number) }
-        ensures gives { IfNext result (CameFrom group.old.members) }
-        ensures none_more { NoneGivesMore group.old.members group.new.members }
-        ensures refused { OnErr result (SameMembers group.old.members group.new.members) }
+        ensures over { is_over result ≡ true ↔ slab_len group.old.members ≡ 0 }
+        ensures takes { TakesMember group.old.members result group.new.members }
         ensures no_deadline { result ≢ Err NextMemberError.Elapsed }
-        ensures room { group.new.members.capacity ≡ group.old.members.capacity }
         ensures settled { OwesNothing self.new.worker }
     {
         if group.is_empty() {
@@ -61,7 +56,8 @@ impl<'x, R: Wait + Drop + Copy, F: Yields, B: Allocator + Copy, M: Drop> Turns<
         let bells: &Bells = pool.bells();
         for _ in pool.rt.forever() {
             let interruptions = bells.interruptions();
-            if let Some(next) = self.look(group) {
+            let next = self.look(group);
+            if !matches!(next, Ok(None)) {
                 self.worker.pay();
                 return next;
             }
@@ -70,31 +66,23 @@ impl<'x, R: Wait + Drop + Copy, F: Yields, B: Allocator + Copy, M: Drop> Turns<
         unreachable!()
     }
 
-    // Takes the next member that has ended out of the group, as `TaskGroup::try_next` does, and has the next end of one ring the bell of this worker; without a bell it refuses. `None` where none has ended yet, unless the pool ends.
+    // Takes the next member that has ended out of the group, as `TaskGroup::try_next` does, and has the next end of one ring the bell of this worker; without a bell it refuses. `Ok(None)` where none has ended yet, unless the pool ends.
     fn look(
         &mut self,
         group: &mut PoolGroup<'x, R, F, B, M>,
-    ) -> Option<Result<Option<Ended<F>>, NextMemberError>>
-        ensures found { IfSome result (λ next. is_over next ≡ false) }
-        ensures leaves { IfSome result (λ next. IfNext next (λ ended. Leaves group.old.members group.new.members ended.number)) }
-        ensures gives { IfSome result (λ next. IfNext next (CameFrom group.old.members)) }
-        ensures none_more { NoneGivesMore group.old.members group.new.members }
-        ensures refused { IfSome result (λ next. OnErr next (SameMembers group.old.members group.new.members)) }
-        ensures no_deadline { IfSome result (λ next. next ≢ Err NextMemberError.Elapsed) }
-        ensures stays { IsNone result → SameMembers group.old.members group.new.members }
-        ensures len { IsNone result → slab_len group.new.members ≡ slab_len group.old.members }
-        ensures room { group.new.members.capacity ≡ group.old.members.capacity }
+    ) -> Result<Option<Ended<F>>, NextMemberError>
+        ensures takes { TakesMember group.old.members result group.new.members }
+        ensures no_deadline { result ≢ Err NextMemberError.Elapsed }
     {
         let ends = self.ends();
         let Some(bell) = self.bell() else {
-            return Some(Err(NextMemberError::Refused));
+            return Err(NextMemberError::Refused);
         };
         group.listen(bell);
         match group.try_next() {
-            Ok(Some(ended)) => Some(Ok(Some(ended))),
-            Ok(None) if ends => Some(Err(NextMemberError::ShutDown)),
-            Ok(None) => None,
-            Err(_) => Some(Err(NextMemberError::Refused)),
+            Ok(None) if ends => Err(NextMemberError::ShutDown),
+            Ok(next) => Ok(next),
+            Err(_) => Err(NextMemberError::Refused),
         }
     }
 }
@@ -115,13 +103,8 @@ impl<'x, R: Wait + Clock + Drop + Copy, F: Yields, B: Allocator + Copy, M: Drop>
     ) -> Result<Option<Ended<F>>, NextMemberError>
     where
         F: Future<PoolWaker<'x, R, F, BellAwaiter<R>, B, M>>,
-        ensures over { is_over result ≡ true → slab_len group.old.members ≡ 0 }
-        ensures empty { slab_len group.old.members ≡ 0 → is_over result ≡ true }
-        ensures leaves { IfNext result (λ ended. Leaves group.old.members group.new.members ended.number) }
-        ensures gives { IfNext result (CameFrom group.old.members) }
-        ensures none_more { NoneGivesMore group.old.members group.new.members }
-        ensures refused { OnErr result (SameMembers group.old.members group.new.members) }
-        ensures room { group.new.members.capacity ≡ group.old.members.capacity }
+        ensures over { is_over result ≡ true ↔ slab_len group.old.members ≡ 0 }
+        ensures takes { TakesMember group.old.members result group.new.members }
         ensures settled { OwesNothing self.new.worker }
     {
         if group.is_empty() {
@@ -137,7 +120,8 @@ impl<'x, R: Wait + Clock + Drop + Copy, F: Yields, B: Allocator + Copy, M: Drop>
         let bells: &Bells = pool.bells();
         for _ in pool.rt.forever() {
             let interruptions = bells.interruptions();
-            if let Some(next) = self.look(group) {
+            let next = self.look(group);
+            if !matches!(next, Ok(None)) {
                 self.worker.pay();
                 return next;
             }

@@ -48,14 +48,9 @@ impl Stage {
         self.word.load(Ordering::SeqCst) == FINISHING
     }
 
-    // Whether the pool was shut down. No clause says what the word shows.
-    pub(crate) fn is_shut_down(&self) -> bool {
-        self.word.load(Ordering::SeqCst) == SHUT_DOWN
-    }
-
-    // A look for a shutdown, of which nothing is seen. As of `is_shut_down`, no clause says so.
+    // A look for a shutdown, of which nothing is seen. No clause says what the word shows.
     pub(crate) fn look(&self) -> Option<NotShutDown> {
-        if self.is_shut_down() {
+        if self.word.load(Ordering::SeqCst) == SHUT_DOWN {
             return None;
         }
         Some(NotShutDown(()))

@@ -4,12 +4,13 @@ ghost use Rattle.std.specs.Arc.{arc_value};
 ghost use mathlib.Core.Option.{some};
 ghost use lib.ListN.{get_elem?};
 ghost use Rattle.executor_parts.specs.Answered.{answer_of};
-ghost use Rattle.executor.specs.Hands.{ComesFirst};
+ghost use Rattle.executor.specs.Hands.{HandsOut, Takes};
 ghost use Rattle.executor.specs.Wakes.{RingsWorker};
 ghost use Rattle.work_queues.specs.Settled.{OwesNothing};
 
 use crate::bell_awaiter::BellAwaiter;
 use crate::due::{DueRunnable, cancel_all};
+use crate::ending::Filled;
 use crate::errors::TurnsError;
 use crate::kept::{collect, wake_posted};
 use crate::pool::{Place, Pool, PoolRunnable, PoolWaker};
@@ -57,10 +58,9 @@ impl<'x, R: Wait + Drop + Copy, F: Yields, A: Wake, B: Allocator, M: Drop> Drop
         // The next turns of this number begin with it.
         pool.numbers.show(number, earlier, worker.counts());
         cancel_all(pool.crew.end_turns(&pool.rt, worker));
-        // A shutdown may have passed both queues before this worker moved Runnables there.
-        if pool.is_shut_down() {
-            pool.cancel_queue(number);
-            pool.cancel_queue(pool.workers());
+        // This worker may have moved Runnables to both queues.
+        for queue in [number, pool.workers()] {
+            let _ = pool.look_again(Filled { queue });
         }
     }
 }
@@ -143,9 +143,7 @@ impl<'x, R: Wait + Drop + Copy, F: Yields, A: Wake, B: Allocator + Copy, M: Drop
 
     /// The next Runnable for this worker: its own, one that came from outside, or one of another worker. `None` where there is none, or only such as this worker leaves to another one that is about to run them. Run it; its drop cancels its task.
     pub fn next(&mut self) -> Option<PoolRunnable<'x, R, F, A, B, M>>
-        ensures place { IfSome result (λ runnable. runnable.around.1 ≡ self.old.worker.number) }
-        ensures first { ComesFirst (λ queued runnable. runnable.inner ≡ queued.parked.inner) self.old.worker.batch.items result self.new.worker.batch.items }
-        ensures hands { IsNone result → self.new.worker.batch.items ≡ [] }
+        ensures handed { HandsOut self.old.worker result self.new.worker }
         ensures settled { OwesNothing self.new.worker }
     {
         let place = self.place();
@@ -156,9 +154,7 @@ impl<'x, R: Wait + Drop + Copy, F: Yields, A: Wake, B: Allocator + Copy, M: Drop
 
     // As `next`, but where it finds none the worker owes what it did before.
     fn find(&mut self) -> Option<DueRunnable<R, F, A, M>>
-        ensures first { ComesFirst (λ queued taken. taken ≡ queued) self.old.worker.batch.items result self.new.worker.batch.items }
-        ensures hands { IsNone result → self.new.worker.batch.items ≡ [] }
-        ensures owes { IsSome result → OwesNothing self.new.worker }
+        ensures takes { Takes self.old.worker result self.new.worker }
     {
         let Some(due) = self.pool.crew.find(&self.pool.rt, &mut self.worker) else {
             self.show_counts();
@@ -182,9 +178,7 @@ impl<'x, R: Wait + Drop + Copy, F: Yields, A: Wake, B: Allocator + Copy, M: Drop
 
     /// Searches for a while, if no other worker does, and then sleeps, if no queue shows a Runnable, the pool was not shut down, and the bells counted no interruption since `interruptions`. It may also end its rest for no reason. Then it wakes one task whose number was posted, and takes the next Runnable, if there is one. Run it. `take_turn` rests where it is due.
     pub fn rest(&mut self, interruptions: u64) -> Option<PoolRunnable<'x, R, F, A, B, M>>
-        ensures place { IfSome result (λ runnable. runnable.around.1 ≡ self.old.worker.number) }
-        ensures first { ComesFirst (λ queued runnable. runnable.inner ≡ queued.parked.inner) self.old.worker.batch.items result self.new.worker.batch.items }
-        ensures hands { IsNone result → self.new.worker.batch.items ≡ [] }
+        ensures handed { HandsOut self.old.worker result self.new.worker }
         ensures settled { OwesNothing self.new.worker }
     {
         let place = self.place();
@@ -207,8 +201,7 @@ impl<'x, R: Wait + Drop + Copy, F: Yields, A: Wake, B: Allocator + Copy, M: Drop
 
     // The look after a rest, which ends what the worker owes.
     fn look_again(&mut self, place: Place<'x, R, F, A, B, M>) -> Option<DueRunnable<R, F, A, M>>
-        ensures first { ComesFirst (λ queued taken. taken ≡ queued) self.old.worker.batch.items result self.new.worker.batch.items }
-        ensures hands { IsNone result → self.new.worker.batch.items ≡ [] }
+        ensures takes { Takes self.old.worker result self.new.worker }
         ensures settled { OwesNothing self.new.worker }
     {
         wake_posted(place);
@@ -219,9 +212,7 @@ impl<'x, R: Wait + Drop + Copy, F: Yields, A: Wake, B: Allocator + Copy, M: Drop
 
     /// A turn but for the run of what it takes: wakes one task whose number was posted, and takes the next Runnable. At the first and each 64th turn, and where there is none, it frees what keys left. Where there is neither it rests, as `rest` says, if the bells counted no interruption since `interruptions`: so ask for them before the last look at what the loop waits for. Run what it answers.
     pub fn take_turn(&mut self, interruptions: u64) -> Option<PoolRunnable<'x, R, F, A, B, M>>
-        ensures place { IfSome result (λ runnable. runnable.around.1 ≡ self.old.worker.number) }
-        ensures first { ComesFirst (λ queued runnable. runnable.inner ≡ queued.parked.inner) self.old.worker.batch.items result self.new.worker.batch.items }
-        ensures hands { IsNone result → self.new.worker.batch.items ≡ [] }
+        ensures handed { HandsOut self.old.worker result self.new.worker }
         ensures settled { OwesNothing self.new.worker }
     {
         self.take_turn_within(interruptions, &NoLimit)
@@ -233,17 +224,12 @@ impl<'x, R: Wait + Drop + Copy, F: Yields, A: Wake, B: Allocator + Copy, M: Drop
         interruptions: u64,
         limit: &L,
     ) -> Option<PoolRunnable<'x, R, F, A, B, M>>
-        ensures place { IfSome result (λ runnable. runnable.around.1 ≡ self.old.worker.number) }
-        ensures first { ComesFirst (λ queued runnable. runnable.inner ≡ queued.parked.inner) self.old.worker.batch.items result self.new.worker.batch.items }
-        ensures hands { IsNone result → self.new.worker.batch.items ≡ [] }
+        ensures handed { HandsOut self.old.worker result self.new.worker }
         ensures settled { OwesNothing self.new.worker }
     {
         let place = self.place();
         match self.turn(place, interruptions, limit) {
-            Some(due) => {
-                self.worker.pay();
-                Some(due.hand_out(place))
-            }
+            Some(due) => Some(due.hand_out(place)),
             None => hand_out_if_any(self.look_again(place), place),
         }
     }
@@ -255,9 +241,7 @@ impl<'x, R: Wait + Drop + Copy, F: Yields, A: Wake, B: Allocator + Copy, M: Drop
         interruptions: u64,
         limit: &L,
     ) -> Option<DueRunnable<R, F, A, M>>
-        ensures first { ComesFirst (λ queued taken. taken ≡ queued) self.old.worker.batch.items result self.new.worker.batch.items }
-        ensures hands { IsNone result → self.new.worker.batch.items ≡ [] }
-        ensures owes { IsSome result → OwesNothing self.new.worker }
+        ensures takes { Takes self.old.worker result self.new.worker }
     {
         if self.count % COLLECTS == 0 {
             collect(place);
@@ -317,8 +301,7 @@ impl<'x, R: Wait + Drop + Copy, F: Yields, A: Wake, B: Allocator + Copy, M: Drop
         limit: &L,
         finishes: bool,
     ) -> Option<DueRunnable<R, F, A, M>>
-        ensures hands { IsNone result → self.new.worker.batch.items ≡ [] }
-        ensures owes { IsSome result → OwesNothing self.new.worker }
+        ensures takes { Takes self.old.worker result self.new.worker }
     {
         if finishes {
             self.take_last_turn(place)
@@ -329,9 +312,7 @@ impl<'x, R: Wait + Drop + Copy, F: Yields, A: Wake, B: Allocator + Copy, M: Drop
 
     // As a turn, but it frees what keys left each time, and never rests: a turn of a pool that finishes.
     fn take_last_turn(&mut self, place: Place<'x, R, F, A, B, M>) -> Option<DueRunnable<R, F, A, M>>
-        ensures first { ComesFirst (λ queued taken. taken ≡ queued) self.old.worker.batch.items result self.new.worker.batch.items }
-        ensures hands { IsNone result → self.new.worker.batch.items ≡ [] }
-        ensures owes { IsSome result → OwesNothing self.new.worker }
+        ensures takes { Takes self.old.worker result self.new.worker }
     {
         collect(place);
         wake_posted(place);

@@ -118,9 +118,7 @@ impl<R: Wait + Drop + Copy, T: Drop, W: Wake> Sender<R, T, W> {
         ensures { self.new.place.number ≡ None }
     {
         let place = mem::replace(&mut self.place, Place::outside());
-        let mut unlocked = self.state.unlocked();
-        let due = unlocked.lock(&self.rt).leave_room(place);
-        due.wake(&unlocked);
+        self.state.wake_after(&self.rt, place, Messages::leave_room);
     }
 
     /// A future that sends a message once there is room. Its output is an error with the message, where all receivers are gone. Where it is dropped half way the message is dropped with it.
@@ -241,9 +239,7 @@ impl<R: Wait + Drop + Copy, T: Drop, W: Wake> Receiver<R, T, W> {
         ensures { self.new.place.number ≡ None }
     {
         let place = mem::replace(&mut self.place, Place::outside());
-        let mut unlocked = self.state.unlocked();
-        let due = unlocked.lock(&self.rt).leave_here(place);
-        due.wake(&unlocked);
+        self.state.wake_after(&self.rt, place, Messages::leave_here);
     }
 
     /// A future that receives a message. Its output is `None` where none is left, and all senders are gone. Where it is dropped half way no message is lost.

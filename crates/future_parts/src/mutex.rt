@@ -125,14 +125,8 @@ impl<R: Wait + Drop + Copy, T: Drop, W: Wake> Drop for Lock<R, T, W> {
     fn drop(self) {
         let Lock { rt, state, place } = self;
         match state {
-            Some(state) => {
-                let mut unlocked = state.unlocked();
-                let due = unlocked.lock(&rt).leave(place);
-                due.wake(&unlocked);
-            }
-            None => {
-                place.end();
-            }
+            Some(state) => state.wake_after(&rt, place, KeptValue::leave),
+            None => place.end(),
         }
     }
 }

@@ -85,14 +85,8 @@ impl<R: Wait + Drop + Copy, W: Wake> Drop for Notified<R, W> {
     fn drop(self) {
         let Notified { rt, state, place } = self;
         match state {
-            Some(state) => {
-                let mut unlocked = state.unlocked();
-                let due = unlocked.lock(&rt).leave(place);
-                due.wake(&unlocked);
-            }
-            None => {
-                place.end();
-            }
+            Some(state) => state.wake_after(&rt, place, Notices::leave),
+            None => place.end(),
         }
     }
 }

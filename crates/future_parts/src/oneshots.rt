@@ -64,9 +64,7 @@ impl<R: Wait + Drop + Copy, T: Drop, W: Wake> Drop for OneSender<R, T, W> {
     fn drop(self) {
         let OneSender { rt, state, end } = self;
         if let Some(end) = end {
-            let mut unlocked = state.unlocked();
-            let due = unlocked.lock(&rt).sender_gone(end);
-            due.wake(&unlocked);
+            state.wake_after(&rt, end, Single::sender_gone);
         }
     }
 }

@@ -81,9 +81,8 @@ pub struct Permit<R: Wait + Drop + Copy, W: Wake> {
 impl<R: Wait + Drop + Copy, W: Wake> Drop for Permit<R, W> {
     fn drop(self) {
         let Permit { semaphore, lease } = self;
-        let mut unlocked = semaphore.state.unlocked();
-        let due = unlocked.lock(&semaphore.rt).give_back(lease);
-        due.wake(&unlocked);
+        let Semaphore { rt, state } = semaphore;
+        state.wake_after(&rt, lease, Lent::give_back);
     }
 }
 
@@ -99,14 +98,8 @@ impl<R: Wait + Drop + Copy, W: Wake> Drop for Acquire<R, W> {
     fn drop(self) {
         let Acquire { rt, state, place } = self;
         match state {
-            Some(state) => {
-                let mut unlocked = state.unlocked();
-                let due = unlocked.lock(&rt).leave(place);
-                due.wake(&unlocked);
-            }
-            None => {
-                place.end();
-            }
+            Some(state) => state.wake_after(&rt, place, Lent::leave),
+            None => place.end(),
         }
     }
 }

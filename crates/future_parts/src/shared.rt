@@ -1,5 +1,5 @@
 //! A state under a lock, what contracts see of how it began, and what shows that a call does not hold that lock.
-use crate::due::Step;
+use crate::due::{Due, Step};
 use std::sync::{Mutex, MutexGuard, Wait};
 use task_core::Wake;
 
@@ -39,6 +39,20 @@ impl<S: Drop, N: Drop> Shared<S, N> {
     // The only way to the lock. A call makes one alone.
     pub(crate) fn unlocked(&self) -> Unlocked<'_, S> {
         Unlocked { lock: &self.lock }
+    }
+
+    // Takes the lock for a step that ends a duty, and wakes without it whom that leaves due.
+    pub(crate) fn wake_after<R: Wait, W: Wake, D, G: FnOnce(&mut S, D) -> Due<W>>(
+        &self,
+        rt: &R,
+        duty: D,
+        step: G,
+    )
+        requires { G.IsAlwaysCallable step }
+    {
+        let mut unlocked = self.unlocked();
+        let due = step(&mut *unlocked.lock(rt), duty);
+        due.wake(&unlocked);
     }
 
     // Carries a duty out, step by step: takes the lock for each, and wakes without it.

@@ -3,7 +3,7 @@ ghost use Rattle.std.specs.Prelude.{◌≡◌, IfErr, IfOk, IfSome};
 ghost use Rattle.std.specs.Arc.{arc_value};
 
 use crate::entry::table::{Ended, TimerTable};
-use crate::entry::{Firing, TimerKey};
+use crate::entry::{Due, Firing, TimerKey};
 use crate::shared::Shared;
 use crate::ticks::Ticks;
 use std::alloc::{AllocError, Global};
@@ -98,17 +98,19 @@ impl<R: Wait + Clock + Drop + Copy, W: Wake> Timers<R, W> {
         spare.discard(&unlocked);
     }
 
-    // Wakes the future of each timer that is due.
-    fn fire_due(&self, begun: Firing) {
+    // Carries a duty out, step by step: takes the lock for each, and wakes without it.
+    fn wake_each<D, G: Fn(&mut TimerTable<W>, D) -> Option<(Due<W>, D)>>(&self, begun: D, step: G)
+        requires { G.IsAlwaysCallable step }
+    {
         let mut unlocked = self.shared.unlocked();
-        let mut firing = begun;
+        let mut duty = begun;
         for _ in self.shared.rt.forever() {
-            let fired = unlocked.lock(&self.shared.rt).fire(firing);
-            let Some((due, rest)) = fired else {
+            let stepped = step(&mut *unlocked.lock(&self.shared.rt), duty);
+            let Some((due, rest)) = stepped else {
                 return;
             };
             due.wake(&unlocked);
-            firing = rest;
+            duty = rest;
         }
         unreachable!()
     }
@@ -117,7 +119,7 @@ impl<R: Wait + Clock + Drop + Copy, W: Wake> Timers<R, W> {
     ///
     /// A timer that is made after this call may be due sooner. It has no clause, as `new`: `TimerTable::fire` has.
     pub fn fire(&self, now: Instant) -> Option<Instant> {
-        self.fire_due(Firing::begin(&self.shared.ticks, now));
+        self.wake_each(Firing::begin(&self.shared.ticks, now), TimerTable::fire);
         self.next_deadline()
     }
 
@@ -135,7 +137,7 @@ impl<R: Wait + Clock + Drop + Copy, W: Wake> Timers<R, W> {
     {
         for _ in self.shared.rt.forever() {
             let now = self.now()?;
-            self.fire_due(Firing::begin(&self.shared.ticks, now));
+            self.wake_each(Firing::begin(&self.shared.ticks, now), TimerTable::fire);
             if let Some(ended) = self.rest(now) {
                 return Ok(ended);
             }
@@ -166,19 +168,9 @@ impl<R: Wait + Clock + Drop + Copy, W: Wake> Timers<R, W> {
 
     /// Closes the timers: each future that still awaits one is woken, and answers `Closed`, as do those that are made from now on. `run` returns. It has no clause, as `new`: `TimerTable::close` and `release` have.
     pub fn close(&self) {
-        let mut unlocked = self.shared.unlocked();
-        let (closing, notice) = unlocked.lock(&self.shared.rt).close();
+        let (closing, notice) = self.shared.unlocked().lock(&self.shared.rt).close();
         notice.tell(&self.shared.earlier);
-        let mut closing = closing;
-        for _ in self.shared.rt.forever() {
-            let released = unlocked.lock(&self.shared.rt).release(closing);
-            let Some((due, rest)) = released else {
-                return;
-            };
-            due.wake(&unlocked);
-            closing = rest;
-        }
-        unreachable!()
+        self.wake_each(closing, TimerTable::release);
     }
 
     /// How many timers there are: one for each future of these timers that is there. It has no clause, as `new`: `TimerTable::len` has.

@@ -1,7 +1,6 @@
 //! A member of a group, and what becomes of it by a poll.
 ghost use Rattle.std.specs.Prelude.{◌≡◌};
-ghost use Rattle.task_cell.specs.PollPaths.{IfOutput};
-ghost use Rattle.async_task.specs.HandlePaths.{IfSomeOutput, fallible_answer};
+ghost use Rattle.async_task.specs.HandlePaths.{fallible_answer};
 ghost use Rattle.executor_parts.specs.Cancelled.{IsCancel};
 ghost use Rattle.executor_parts.specs.Outputs.{GivesNoMore};
 
@@ -76,8 +75,7 @@ where
 pub(super) fn closed_where_none<F: Yields>(
     answer: TaskPoll<Option<F::Output>>,
 ) -> TaskPoll<Result<F::Output, TaskClosed>>
-    ensures same { fallible_answer result ≡ answer }
-    ensures meets { IfSomeOutput answer (λ output. ∥ F.Yields.meets output ∥₁) → IfOutput result (λ output. ∥ F.Yields.meets output ∥₁) }
+    ensures { fallible_answer result ≡ answer }
 {
     match answer {
         TaskPoll::Ready(Some(output)) => TaskPoll::Ready(Ok(output)),

@@ -40,24 +40,10 @@ where
         ensures of_another { asked ≢ Some generation → IfErr result (λ stays. IsCancel stays.member → IsCancel member) }
     {
         if asked == Some(generation) {
-            self.poll_cancelled(number, member)
+            self.poll_member(number, member.cancel())
         } else {
             self.poll_member(number, member)
         }
-    }
-
-    // Cancels a member of this number by a poll.
-    fn poll_cancelled(
-        &self,
-        number: usize,
-        member: Member<R, F, Q, M, A, X, B>,
-    ) -> Result<Ended<F>, Stays<R, F, Q, M, A, X, B>>
-        ensures number { IfOk result (λ ended. ended.number ≡ number) }
-        ensures gives { IfOk result (λ ended. IfOk ended.answer (MayGive member)) }
-        ensures stays { IfErr result (λ stays. GivesNoMore member stays.member) }
-        ensures cancelled { IfErr result (λ stays. stays.refused ≡ false → WasCancelled stays.member) }
-    {
-        self.poll_member(number, member.cancel())
     }
 
     // Polls a member of this number.

@@ -48,7 +48,7 @@ returns-after-awaiter_of-clause-stays g c =
 pub returns-after-awaiter_of-2-clause-gives : goal.returns-after-awaiter_of-2-clause-gives
 returns-after-awaiter_of-2-clause-gives g c =
     let told : IfOutput c.match-awaiter_of-2.polled (HasYielded c.in-Cancelled.cancel.task.inner.share) = elim c.match-awaiter_of-2.branch [
-      | in-Some-awaiter_of w ↦ subst (λ polled. IfOutput polled (HasYielded c.in-Cancelled.cancel.task.inner.share)) (sym w.polled-is) (of-fallible (HasYielded c.in-Cancelled.cancel.task.inner.share) w.closed_where_none-polled.result (subst (λ answer. IfSomeOutput answer (HasYielded c.in-Cancelled.cancel.task.inner.share)) (sym w.closed_where_none-polled.ensures.same) w.poll.ensures.yielded))
+      | in-Some-awaiter_of w ↦ subst (λ polled. IfOutput polled (HasYielded c.in-Cancelled.cancel.task.inner.share)) (sym w.polled-is) (of-fallible (HasYielded c.in-Cancelled.cancel.task.inner.share) w.closed_where_none-polled.result (subst (λ answer. IfSomeOutput answer (HasYielded c.in-Cancelled.cancel.task.inner.share)) (sym w.closed_where_none-polled.ensures) w.poll.ensures.yielded))
       | in-None-awaiter_of w ↦ subst (λ polled. IfOutput polled (HasYielded c.in-Cancelled.cancel.task.inner.share)) (sym w.polled-is) tt
     ] in
     subst (λ member. IfOk c.settle-in-Cancelled.result (λ ended. IfOk ended.answer (MayGive member))) (sym c.in-Cancelled.is) (settled-gives (HasYielded c.in-Cancelled.cancel.task.inner.share) c.settle-in-Cancelled.result c.match-awaiter_of-2.polled told c.settle-in-Cancelled.ensures.answer)
