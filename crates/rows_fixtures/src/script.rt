@@ -12,7 +12,7 @@ use crate::surroundings::SentRunnable;
 use std::alloc::{AllocError, Global};
 use std::sync::Wait;
 use std::thread;
-use std::thread::Threads;
+use std::thread::{JoinHandle, Scope, Threads};
 
 /// How a script ended.
 #[derive(Clone, Copy)]
@@ -89,7 +89,7 @@ where
     let rendezvous = &fixture.surroundings.rendezvous;
     rendezvous.arm();
     thread::scope(thread::scope_env(), &rt, |scope| {
-        let Ok(second) = scope.spawn(move || sent.run()) else {
+        let Ok(second) = start(scope, sent) else {
             return Err(Missing::Thread);
         };
         meet(player, rendezvous, beside);
@@ -97,6 +97,17 @@ where
         player.has_failed |= answered != answer || !rendezvous.met();
         Ok(())
     })
+}
+
+// Has a second thread run. That a Runnable may cross is long to prove: here few facts are at hand.
+fn start<'s, 'x: 's, 'm: 's, E, R>(
+    scope: &Scope<'s, E>,
+    sent: SentRunnable<'x, 'm, R>,
+) -> Result<JoinHandle<bool>, Missing>
+where
+    R: Wait + Drop + Copy + Send + Sync + 's,
+{
+    scope.spawn(move || sent.run()).map_err(|_| Missing::Thread)
 }
 
 // What is done beside a run.
