@@ -7,11 +7,11 @@ use rows_fixtures::counters::{Counter, Counts};
 use rows_fixtures::counting::Counting;
 use rows_fixtures::fixture::Fixture;
 use rows_fixtures::surroundings::{RowWaker, SentRunnable};
-use std::alloc::{AllocError, Global};
+use std::alloc::Global;
 use std::process::Abort;
 use std::sync::Wait;
 use std::thread;
-use std::thread::{Threads, yield_now};
+use std::thread::{Scope, Threads, yield_now};
 
 // How many threads wake, how often each does, and how often the runner looks at the queue at most.
 const THREADS: u64 = 4;
@@ -49,12 +49,17 @@ fn run_to_the_end<R: Wait + Drop + Copy>(fixture: &Fixture<'_, R>, ended: &Count
     false
 }
 
-// A waker of its task, for another thread.
-fn sent_waker<'x, 'm, R: Wait + Drop + Copy>(
+// Has another thread wake the task. False where it was refused a waker or a thread.
+fn start_waking<'s, 'x: 's, 'm: 's, E, R: Wait + Drop + Copy + Send + Sync + 's>(
+    scope: &Scope<'s, E>,
     sent: &SentRunnable<'x, 'm, R>,
-) -> Result<SentWaker<'x, 'm, R>, AllocError> {
-    let waker = sent.runnable.waker()?;
-    Ok(SentWaker { waker })
+    ended: &'s Counter,
+) -> bool {
+    let Ok(waker) = sent.runnable.waker() else {
+        return false;
+    };
+    let sent = SentWaker { waker };
+    scope.spawn(move || sent.wake_often(ended)).is_ok()
 }
 
 // The first run, and those that four threads wake the task for: whether all threads came and the last run was made.
@@ -66,10 +71,7 @@ fn storm<'x, 'm, R: Wait + Threads + Drop + Copy + Send + Sync>(
 ) -> bool {
     thread::scope(thread::scope_env(), rt, |scope| {
         for _ in 0..THREADS {
-            let Ok(waker) = sent_waker(&sent) else {
-                return false;
-            };
-            if scope.spawn(move || waker.wake_often(ended)).is_err() {
+            if !start_waking(scope, &sent, ended) {
                 return false;
             }
         }
