@@ -14,7 +14,16 @@ use work_queues::bells::NothingShown;
 
 /// A queue was filled, which a shutdown may have passed before. It has no `Drop`, so it ends in `Pool::look_again`.
 pub(crate) struct Filled {
-    pub(crate) queue: usize,
+    queue: usize,
+}
+
+impl Filled {
+    // A queue to which a worker may have moved Runnables.
+    pub(crate) fn of(queue: usize) -> Filled
+        ensures { result.queue ≡ queue }
+    {
+        Filled { queue }
+    }
 }
 
 /// What a queue had was cancelled. Only `Pool::cancel_queue` makes one.

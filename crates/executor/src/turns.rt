@@ -60,7 +60,7 @@ impl<'x, R: Wait + Drop + Copy, F: Yields, A: Wake, B: Allocator, M: Drop> Drop
         cancel_all(pool.crew.end_turns(&pool.rt, worker));
         // This worker may have moved Runnables to both queues.
         for queue in [number, pool.workers()] {
-            let _ = pool.look_again(Filled { queue });
+            let _ = pool.look_again(Filled::of(queue));
         }
     }
 }
