@@ -2,7 +2,7 @@
 use Rattle.std.proofs.Common.{◌≡◌, ℕ, Option, Some, List, [], ◌∷◌, ap, ◌∙◌, subst}
 use Rattle.std.specs.declared.alloc.Global.{Global}
 use Rattle.task_core.specs.declared.traits.Yields.{Ghosts}
-use Rattle.task_cell.specs.declared.cell.Runnable.{Runnable}
+use Rattle.task_cell.specs.declared.runnable.Runnable.{Runnable}
 use Rattle.executor.specs.declared.due.DueRunnable.{DueRunnable}
 use Rattle.executor.specs.declared.pool.ToPool.{ToPool}
 use Rattle.executor.specs.Hands.{ComesFirst}

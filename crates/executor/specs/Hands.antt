@@ -1,7 +1,7 @@
 use Rattle.std.specs.Prelude.{◌≡◌, ℕ, List, [], ◌∷◌, Option, IfSome, IsNone, IsSome, IsSomeAnd, ⊤}
 use Rattle.std.specs.declared.alloc.Global.{Global}
 use Rattle.task_core.specs.declared.traits.Yields.{Ghosts}
-use Rattle.task_cell.specs.declared.cell.Runnable.{Runnable}
+use Rattle.task_cell.specs.declared.runnable.Runnable.{Runnable}
 use Rattle.work_queues.specs.declared.crew.worker.Worker.{Worker}
 use Rattle.work_queues.specs.Settled.{OwesNothing}
 use Rattle.executor.specs.declared.due.DueRunnable.{DueRunnable}

@@ -3,7 +3,7 @@ use Rattle.std.specs.declared.alloc.Global.{Global}
 use Rattle.task_core.specs.declared.traits.Wake as wake
 use Rattle.task_core.specs.declared.traits.Yields as yields
 use Rattle.std.specs.BinaryHeap.{heap_items}
-use Rattle.task_cell.specs.declared.cell.Runnable.{Runnable}
+use Rattle.task_cell.specs.declared.runnable.Runnable.{Runnable}
 use Rattle.executor_parts.specs.declared.heap.PriorityHeap.{PriorityHeap}
 
 module _ {R F Q A O K : Type 0} {G : yields.Ghosts F O} {W : wake.Ghosts A K} where

@@ -6,7 +6,7 @@ use Rattle.task_cell.proofs.Vocabulary.{DidWith, Did, row, act, kept, not_claime
 use Rattle.task_cell.proofs.Vocabulary.{ClosesPending, EndsReady, EndsUnready, AnswersPending, stays_pending, clears, EndsPending, is_closed, is_rescheduled, is_idle, is_orphaned, subst, TaskPlace, work_first}
 use Rattle.std.specs.Prelude.{◌||◌}
 use Rattle.std.proofs.Common.{Option, Some, None}
-use Rattle.task_steps.specs.declared.run.PendingEnd.{PendingEnd}
+use Rattle.task_steps.specs.declared.found.PendingEnd.{PendingEnd}
 use Rattle.task_cell.specs.RunPaths.{StorePath, detached}
 use Rattle.task_cell.specs.RunCalls.{finds_closed}
 use Rattle.task_cell.proofs.Moved as moved

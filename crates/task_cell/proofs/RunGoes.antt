@@ -10,7 +10,7 @@ use Rattle.task_cell.proofs.Vocabulary.{Idle, Orphaned, IsFuture, IsOutput, Make
 use Rattle.task_cell.proofs.Vocabulary.{limit_of, deeds, row, act, DiscardStart, found_open, found_closed, GivesUp, not_last, last, Releases, Completes, keeps, finds_detached, AnswersPending}
 use Rattle.task_cell.proofs.Vocabulary.{stays_pending, clears, EndsPending, is_rescheduled, is_idle, is_orphaned, given_work, given_free, due_work, closed_already, completes, ends_pending}
 use Rattle.task_cell.proofs.Vocabulary.{MayTry, HasChanged, HasEnded, never_ends, not_true, arith, TaskPlace, work_first, awaiter_first}
-use Rattle.task_steps.specs.declared.run.PendingEnd.{PendingEnd}
+use Rattle.task_steps.specs.declared.found.PendingEnd.{PendingEnd}
 use Rattle.std.specs.Prelude.{is_some}
 use Rattle.task_core.specs.Rows.{row as row_of}
 use Rattle.task_steps.specs.RunScripts.{giving_up, emptying, discarding, answering_ready, answering_pending, completing, ending_pending, ending_closed, to_complete, to_end_pending}

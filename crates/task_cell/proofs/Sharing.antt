@@ -2,8 +2,8 @@
 use Rattle.task_cell.proofs.Vocabulary.{◌≡◌, ℕ, Bool, not, arith, nat_lt, nat_eq}
 use Rattle.task_cell.proofs.Vocabulary.{◌∙◌, ap}
 use Rattle.task_core.specs.declared.traits.Yields.{Ghosts}
-use Rattle.task_cell.specs.declared.cell.block.Share.{Share}
-use Rattle.task_cell.specs.declared.cell.block.MaybeShare.{MaybeShare}
+use Rattle.task_cell.specs.declared.cell.Share.{Share}
+use Rattle.task_cell.specs.declared.cell.MaybeShare.{MaybeShare}
 use Rattle.task_cell.specs.Belongs.{LeavesBy, cell_of, limit_in}
 use Rattle.std.proofs.lemmas.Bool.Decides.{nat_tests}
 

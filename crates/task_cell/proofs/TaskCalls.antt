@@ -7,9 +7,9 @@ use Rattle.task_cell.proofs.Vocabulary.{after_cancelling, after_handing_over, De
 use Rattle.task_cell.proofs.Vocabulary.{Did, row, act, as_task, as_ended, handed_over, Notice, CancelPath, is_busy, DetachPath, drops_output_last, is_shared, is_last, Cancels, Detaches}
 use Rattle.task_cell.proofs.Vocabulary.{GivesTaskUp, work_first, awaiter_first}
 use Rattle.task_laws.specs.declared.positions.OnceDelivered.{OnceDelivered}
-use Rattle.task_steps.specs.declared.task.Cancelled.{Cancelled}
-use Rattle.task_steps.specs.declared.task.Cancelled.TheVariants.{Idle}
-use Rattle.task_steps.specs.declared.task.Detached.TheVariants.{Shared, Last, Orphaned}
+use Rattle.task_steps.specs.declared.found.Cancelled.{Cancelled}
+use Rattle.task_steps.specs.declared.found.Cancelled.TheVariants.{Idle}
+use Rattle.task_steps.specs.declared.found.Detached.TheVariants.{Shared, Last, Orphaned}
 use Rattle.task_cell.specs.TaskPaths.{UnclaimedPath, leaves_others, leaves_none, is_over, is_idle, drops_output, is_orphaned}
 use Rattle.task_cell.proofs.Moved.{did_then, stands, position_is}
 use Rattle.task_cell.proofs.TaskMoves.{Ends}

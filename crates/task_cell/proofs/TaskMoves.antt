@@ -8,12 +8,12 @@ use Rattle.task_cell.proofs.Vocabulary.{Unclaimed, has_work, Carries, Makes, pos
 use Rattle.task_cell.proofs.Vocabulary.{woken, TakesDue, Wakes, Notice, not_due, found_none, woke, Cancels, Detaches, GivesTaskUp, both, over, busy_fits, none_left, output_left}
 use Rattle.task_cell.proofs.Vocabulary.{closed_claimed, idle_cancel, finds_over, cancels, detaches, MayTry, HasChanged, HasEnded, never_ends, is_some, after_taking, TaskPlace, work_first, awaiter_first}
 use Rattle.std.proofs.lemmas.Bool.Decides.{nat_tests}
-use Rattle.task_steps.specs.declared.task.Cancelled.TheVariants.{Idle}
-use Rattle.task_steps.specs.declared.task.Detached.TheVariants.{Shared, Last, Orphaned}
+use Rattle.task_steps.specs.declared.found.Cancelled.TheVariants.{Idle}
+use Rattle.task_steps.specs.declared.found.Detached.TheVariants.{Shared, Last, Orphaned}
 use Rattle.task_cell.specs.RunPaths.{not_due as none_due, missed as miss}
 use Rattle.task_steps.specs.TaskScripts.{closing, detaching, giving_task_up, to_cancel, to_detach}
-use Rattle.task_steps.specs.declared.task.Cancelled.{Cancelled}
-use Rattle.task_steps.specs.declared.task.Detached.{Detached}
+use Rattle.task_steps.specs.declared.found.Cancelled.{Cancelled}
+use Rattle.task_steps.specs.declared.found.Detached.{Detached}
 use Rattle.task_cell.specs.TaskPaths.{missed}
 use Rattle.task_cell.proofs.Moved.{moved, did, did_then, stands, position_is}
 use Rattle.task_core.specs.Rows.{found}

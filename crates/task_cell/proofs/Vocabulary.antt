@@ -92,8 +92,8 @@ pub use Rattle.task_steps.specs.declared.table.Member.{Member}
 pub use Rattle.task_steps.specs.declared.table.Slot.{Slot}
 pub use Rattle.task_steps.specs.declared.table.Slot.TheVariants.{Empty, Future, Output}
 pub use Rattle.task_steps.specs.declared.table.View.{View}
-pub use Rattle.task_steps.specs.declared.task.Cancelled.TheVariants.{Busy}
-pub use Rattle.task_steps.specs.declared.task.Detached.TheVariants.{Unclaimed}
-pub use Rattle.task_steps.specs.declared.waker.Dropped.TheVariants.{Last, Shared}
-pub use Rattle.task_steps.specs.declared.run.PendingEnd.TheVariants.{Idle, Orphaned, Rescheduled}
+pub use Rattle.task_steps.specs.declared.found.Cancelled.TheVariants.{Busy}
+pub use Rattle.task_steps.specs.declared.found.Detached.TheVariants.{Unclaimed}
+pub use Rattle.task_steps.specs.declared.found.Dropped.TheVariants.{Last, Shared}
+pub use Rattle.task_steps.specs.declared.found.PendingEnd.TheVariants.{Idle, Orphaned, Rescheduled}
 pub use mathlib.Core.Option.{none, some, some-injective, some-ne-none}

@@ -2,7 +2,7 @@
 use Rattle.task_cell.proofs.Vocabulary.{◌≡◌, true, is_some, never, Option, Some, None, Result, Ok, Err, IfSome, IfOk, IfErr}
 use Rattle.task_cell.proofs.Vocabulary.{false, List, [], ◌∷◌, ◌++◌, State, Nothing, Deliverer, OrphanHolder, ThenEnds, DropWaker, DropLastWaker, OrphanTask, CloseOrphan, EmptySlots}
 use Rattle.task_cell.proofs.Vocabulary.{EndCall, HandOver, Deed, Party, Shared, Last, Did, row, act, as_ended, WakerDropPath, leaves_others, leaves_none, leaves_orphan, DropsWaker}
-use Rattle.task_steps.specs.declared.waker.Dropped.TheVariants.{Orphaned}
+use Rattle.task_steps.specs.declared.found.Dropped.TheVariants.{Orphaned}
 use Rattle.task_cell.proofs.Moved.{did_then}
 use Rattle.task_cell.proofs.TaskCalls.{Empties, empties}
 

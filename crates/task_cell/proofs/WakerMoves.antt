@@ -7,14 +7,14 @@ use Rattle.task_cell.proofs.Vocabulary.{Last, member, view, fresh, head_of, acte
 use Rattle.task_cell.proofs.Vocabulary.{HasEnded, others_left, at_limit, to_gain, to_wake, observed, state_of, step}
 use Rattle.task_core.specs.Word.{HasRoom}
 use Rattle.task_steps.specs.WakerScripts.{dropping_as, is_over, waking_task, brings_runnable}
-use Rattle.task_steps.specs.declared.waker.Woken.{Woken}
-use Rattle.task_steps.specs.declared.waker.Woken.TheVariants.{Scheduled, Running, Idle}
+use Rattle.task_steps.specs.declared.found.Woken.{Woken}
+use Rattle.task_steps.specs.declared.found.Woken.TheVariants.{Scheduled, Running, Idle}
 use Rattle.task_cell.proofs.Vocabulary.{dropping_waker, closing_orphan, is_gained, finds_limit, is_scheduled, is_running, Gains, gains_none, gains_one, WakesTask}
 use Rattle.task_cell.proofs.Vocabulary.{makes_none, makes_one, DropsWaker, dropped_by, gains, not_true, TaskPlace, awaiter_first}
 use Rattle.task_core.specs.Rows.{found}
 use Rattle.task_steps.proofs.WakerOwed.{scheduled_fits}
 use Rattle.task_steps.proofs.Seen.{right_true}
-use Rattle.task_steps.specs.declared.waker.Dropped.TheVariants.{Orphaned}
+use Rattle.task_steps.specs.declared.found.Dropped.TheVariants.{Orphaned}
 use Rattle.task_steps.specs.Beside.{without_newest, newest}
 use Rattle.task_cell.specs.WakerPaths.{is_idle, GainPath, TaskWakePath}
 use Rattle.task_steps.specs.Seats.{is_spent}

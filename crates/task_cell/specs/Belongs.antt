@@ -5,10 +5,10 @@ use Rattle.task_core.specs.Yielded.{Continued, Yielded}
 use Rattle.counted_block.specs.Blocks.{BlockId}
 use Rattle.task_cell.specs.declared.cell.Cell.{Cell}
 use Rattle.task_cell.specs.declared.cell.Party.{Party}
-use Rattle.task_cell.specs.declared.cell.block.Share.{Share}
-use Rattle.task_cell.specs.declared.cell.block.MaybeShare.{MaybeShare}
-use Rattle.task_cell.specs.declared.cell.block.LastShare.{LastShare}
-use Rattle.task_cell.specs.declared.cell.ledger.Ledger.{Ledger}
+use Rattle.task_cell.specs.declared.cell.Share.{Share}
+use Rattle.task_cell.specs.declared.cell.MaybeShare.{MaybeShare}
+use Rattle.task_cell.specs.declared.cell.LastShare.{LastShare}
+use Rattle.task_cell.specs.declared.share.Ledger.{Ledger}
 use Rattle.task_steps.specs.declared.table.Deed.{Deed}
 use Rattle.task_steps.specs.Deeds.{after}
 use Rattle.task_steps.specs.Values.{Values, values_of}

@@ -4,7 +4,7 @@ use Rattle.task_core.specs.declared.traits.Yields.{Ghosts}
 use Rattle.task_steps.specs.declared.table.Deed.{Deed}
 use Rattle.task_steps.specs.Standing.{as_lent}
 use Rattle.task_cell.specs.declared.cell.Party.{Party}
-use Rattle.task_cell.specs.declared.cell.block.Share.{Share}
+use Rattle.task_cell.specs.declared.cell.Share.{Share}
 use Rattle.task_cell.specs.Belongs.{HasMade, limit_in}
 use Rattle.task_cell.specs.WakerPaths.{GainPath}
 use Rattle.task_cell.specs.Witnessed.{WasMade}

@@ -7,8 +7,8 @@ use Rattle.task_core.specs.declared.traits.ScheduleInfo.{ScheduleInfo}
 use Rattle.counted_block.specs.Blocks.{BlockId}
 use Rattle.task_cell.specs.declared.cell.Cell.{Cell}
 use Rattle.task_cell.specs.Belongs.{cell_of}
-use Rattle.task_cell.specs.declared.cell.Runnable.{Runnable}
-use Rattle.task_cell.specs.declared.cell.waker.TaskWaker.{TaskWaker}
+use Rattle.task_cell.specs.declared.runnable.Runnable.{Runnable}
+use Rattle.task_cell.specs.declared.waker.TaskWaker.{TaskWaker}
 
 -- K is the type of the records that the awaiter's calls answer
 module _ {R F Q M A X B O K : Type 0} {G : Ghosts F O} where

@@ -13,10 +13,10 @@ use Rattle.task_steps.specs.declared.table.Slot.{Slot}
 use Rattle.task_steps.specs.declared.stored.StoredAwaiter.{StoredAwaiter}
 use Rattle.task_steps.specs.declared.table.Deed.{Deed}
 use Rattle.task_cell.specs.declared.cell.Party.{Party}
-use Rattle.task_steps.specs.declared.task.Cancelled.{Cancelled}
-use Rattle.task_steps.specs.declared.task.Cancelled.TheVariants.{Busy, Idle}
-use Rattle.task_steps.specs.declared.task.Detached.{Detached}
-use Rattle.task_steps.specs.declared.task.Detached.TheVariants.{Unclaimed, Shared, Last, Orphaned}
+use Rattle.task_steps.specs.declared.found.Cancelled.{Cancelled}
+use Rattle.task_steps.specs.declared.found.Cancelled.TheVariants.{Busy, Idle}
+use Rattle.task_steps.specs.declared.found.Detached.{Detached}
+use Rattle.task_steps.specs.declared.found.Detached.TheVariants.{Unclaimed, Shared, Last, Orphaned}
 use Rattle.task_steps.specs.Values.{Values}
 use Rattle.task_steps.specs.Rule.{IsOutput}
 use Rattle.task_steps.specs.Steps.{work_first, awaiter_first}

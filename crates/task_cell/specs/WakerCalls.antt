@@ -5,8 +5,8 @@ use Rattle.task_core.specs.declared.traits.ScheduleInfo.{ScheduleInfo}
 use Rattle.task_steps.specs.declared.table.Deed.{Deed}
 use Rattle.task_steps.specs.Standing.{as_ended}
 use Rattle.task_cell.specs.declared.cell.Party.{Party}
-use Rattle.task_cell.specs.declared.cell.Runnable.{Runnable}
-use Rattle.task_cell.specs.declared.cell.waker.TaskWaker.{TaskWaker}
+use Rattle.task_cell.specs.declared.runnable.Runnable.{Runnable}
+use Rattle.task_cell.specs.declared.waker.TaskWaker.{TaskWaker}
 use Rattle.task_cell.specs.Belongs.{HasMade, cell_of, limit_in}
 use Rattle.task_cell.specs.Gained.{HasGained}
 use Rattle.task_cell.specs.Handed.{HandedOver}

@@ -9,8 +9,8 @@ use Rattle.task_core.specs.declared.acts.Act.TheVariants.{CloseOrphan, WakeOver,
 use Rattle.task_core.specs.declared.acts.Act.TheVariants.{EndCall}
 use Rattle.task_steps.specs.declared.table.Deed.{Deed}
 use Rattle.task_cell.specs.declared.cell.Party.{Party}
-use Rattle.task_steps.specs.declared.waker.Dropped.{Dropped}
-use Rattle.task_steps.specs.declared.waker.Dropped.TheVariants.{Shared, Last, Orphaned}
+use Rattle.task_steps.specs.declared.found.Dropped.{Dropped}
+use Rattle.task_steps.specs.declared.found.Dropped.TheVariants.{Shared, Last, Orphaned}
 use Rattle.task_cell.specs.Calls.{Fits, IsNew, Did, DidWith}
 use Rattle.task_steps.specs.Deeds.{row, act}
 use Rattle.task_steps.specs.Standing.{as_waker, as_lent, as_ended, as_deliverer}

@@ -6,8 +6,8 @@ use Rattle.task_laws.specs.declared.positions.Rest.TheVariants.{Waker}
 use Rattle.task_laws.specs.declared.positions.Position.TheVariants.{At}
 use Rattle.task_steps.specs.declared.table.View.{View}
 use Rattle.task_steps.specs.Rule.{view, fresh, TaskPlace}
-use Rattle.task_cell.specs.declared.cell.waker.Hold.{Hold}
-use Rattle.task_cell.specs.declared.cell.waker.Hold.TheVariants.{Owned, Lent as Borrowed}
+use Rattle.task_cell.specs.declared.cell.Hold.{Hold}
+use Rattle.task_cell.specs.declared.cell.Hold.TheVariants.{Owned, Lent as Borrowed}
 
 module _ {F T A : Type 0} where
   -- the block of an owned waker's seat; for a lent waker, which has none, what is given

@@ -1,16 +1,16 @@
-//! The cell, a party of it, which must be spent, and the handles that the cell hands out.
-ghost use Rattle.std.specs.Prelude.{◌≡◌, ℕ, ◌<◌, [], ◌∷◌, true};
-ghost use Rattle.task_steps.specs.Rule.{view, fresh};
+//! The cell, a party of it, which must be spent, and the record of a call that was made.
+ghost use Rattle.std.specs.Prelude.{◌≡◌, [], ◌∷◌, true};
 ghost use Rattle.task_steps.specs.Seats.{is_spent};
-ghost use Rattle.task_cell.specs.Calls.{limit_of, deeds, Stands};
-ghost use Rattle.task_cell.specs.Witnessed.{IsWitnessed, Witnesses};
-ghost use Rattle.task_steps.specs.Standing.{as_runnable, as_ended};
+ghost use Rattle.task_steps.specs.Rule.{view, fresh};
+ghost use Rattle.task_steps.specs.Standing.{as_ended, as_runnable};
+ghost use Rattle.task_cell.specs.Calls.{Stands};
+ghost use Rattle.task_cell.specs.Fitting.{Fitting};
+ghost use Rattle.task_cell.specs.Wakers.{block_of, me_of, waker_me};
+ghost use Rattle.task_cell.specs.Witnessed.{IsWitnessed};
 
 use std::alloc::{Allocator, Global};
-use std::sync::Wait;
-use task_core::word::Word;
-use task_core::{Wake, Yields};
-use task_steps::table::{Kept, TaskSeat, discard};
+use task_core::Yields;
+use task_steps::table::{Block, BlockHold, Kept, LastBlock, MaybeBlock, TaskSeat, discard};
 
 /// What all handles of a task see: the metadata, the schedule value, the limit of references, the runtime value and the allocator, which are dropped in this order. It lies in one block with the word and the places.
 #[derive(Drop)]
@@ -53,6 +53,30 @@ impl<F, T, A> Drop for EndedCall<F, T, A> {
     }
 }
 
+/// A share of a cell, as many as its word has handles: a pointer, and no count beside the word. It must be spent: it goes on with the handle that it is for, or ends with a step that gives the handle up.
+pub struct Share<R, F: Yields, Q, M, A, B: Allocator + Copy = Global> {
+    pub(crate) block: Block<F, A, Cell<R, Q, M, B>, B>,
+    ghost fitting: { Fitting block.key.limit block.value block.heap },
+}
+
+/// A share, or the last one, that a step may have made or left. It must be spent: the caller looks at the word that the step found, and takes what is there or knows that there is none.
+pub struct MaybeShare<R, F: Yields, Q, M, A, B: Allocator + Copy = Global> {
+    pub(crate) maybe: MaybeBlock<F, A, Cell<R, Q, M, B>, B>,
+    ghost fitting: { Fitting maybe.key.limit maybe.value maybe.heap },
+}
+
+/// What a party keeps that gave the last handle up: it empties the places and ends the cell, or has a handle again. It must be spent.
+pub struct LastShare<R, F: Yields, Q, M, A, B: Allocator + Copy = Global> {
+    pub(crate) block: LastBlock<F, A, Cell<R, Q, M, B>, B>,
+    ghost fitting: { Fitting block.key.limit block.value block.heap },
+}
+
+/// It keeps the cell, and makes no step. It must be spent: the last hold of a cell whose shares are gone ends it.
+pub struct CellHold<R, F: Yields, Q, M, A, B: Allocator + Copy> {
+    pub(crate) hold: BlockHold<F, A, Cell<R, Q, M, B>, B>,
+    ghost fitting: { Fitting hold.key.limit hold.value hold.heap },
+}
+
 /// A share of a cell, and the party of its Runnable, which has done nothing: nobody steps with it before the handle is taken apart.
 pub(crate) struct RunnableSeat<R, F: Yields, Q, M, A, B: Allocator + Copy> {
     pub(crate) share: Share<R, F, Q, M, A, B>,
@@ -61,134 +85,18 @@ pub(crate) struct RunnableSeat<R, F: Yields, Q, M, A, B: Allocator + Copy> {
     ghost placed: { party.seat.me ≡ (view share.block.key.limit (fresh as_runnable ∷ []), []) },
 }
 
-impl<R: Wait + Drop + Copy, F: Yields, Q: Drop, M: Drop, A: Drop, B: Allocator + Copy> RunnableSeat<
-    R,
-    F,
-    Q,
-    M,
-    A,
-    B,
-> {
-    // A Runnable that has done nothing yet.
-    pub(crate) fn new(
-        share: Share<R, F, Q, M, A, B>,
-        party: Party<F, Kept<F>, A>,
-    ) -> RunnableSeat<R, F, Q, M, A, B>
-        requires cell { party.seat.block ≡ share.block.id }
-        requires party { party.seat.me ≡ (view share.block.key.limit (fresh as_runnable ∷ []), []) }
-        ensures { result.share ≡ share }
-    {
-        RunnableSeat { share, party }
-    }
-
-    // The share of the cell, and the party, which will step.
-    pub(crate) fn into_party(self) -> (Share<R, F, Q, M, A, B>, Party<F, Kept<F>, A>)
-        ensures share { result.0 ≡ self.share }
-        ensures is { result.1 ≡ self.party }
-        ensures cell { (result.1.seat.block ≡ result.0.block.id) × (limit_of result.1 ≡ result.0.block.key.limit) }
-        ensures party { Stands as_runnable result.1 × (deeds result.1 ≡ []) }
-    {
-        let RunnableSeat { share, party } = self;
-        (share, party)
-    }
-
-    // The word as one load finds it, and the interleaving that ends in it.
-    pub(crate) fn witness(&mut self) -> Word
-        ensures witness { Witnesses self.old.party result }
-        ensures same { (self.new.share ≡ self.old.share) × (self.new.party ≡ self.old.party) }
-    {
-        self.share.witness(&mut self.party)
-    }
+/// What a waker holds.
+pub(crate) enum Hold<F, T, A> {
+    /// A reference, which it gives up when it is dropped, by this party. Nobody steps with it before.
+    Owned(Party<F, T, A>),
+    /// Nothing: it was lent to a poll.
+    Lent,
 }
 
-/// A task that is due: whoever has it runs it, schedules it, or drops it, which cancels the task.
-#[must_use]
-pub struct Runnable<
-    R: Wait + Drop + Copy,
-    F: Yields,
-    Q: Drop,
-    M: Drop,
-    A: Wake,
-    X: Copy,
-    B: Allocator + Copy = Global,
-> {
-    pub(crate) inner: RunnableSeat<R, F, Q, M, A, B>,
-    pub(crate) around: X,
+/// A share of a cell, and what a waker holds.
+pub(crate) struct WakerSeat<R, F: Yields, Q, M, A, B: Allocator + Copy> {
+    pub(crate) share: Share<R, F, Q, M, A, B>,
+    pub(crate) hold: Hold<F, Kept<F>, A>,
+    ghost seated: { block_of hold share.block.id ≡ share.block.id },
+    ghost placed: { me_of hold (waker_me share.block.key.limit) ≡ waker_me share.block.key.limit },
 }
-
-impl<R: Wait + Drop + Copy, F: Yields, Q: Drop, M: Drop, A: Wake, X: Copy, B: Allocator + Copy> Drop
-    for Runnable<R, F, Q, M, A, X, B> {
-    fn drop(self) {
-        self.discard();
-    }
-}
-
-impl<
-    R: Wait + Drop + Copy,
-    F: Yields,
-    Q: Drop,
-    M: Drop,
-    A: Wake,
-    X: Copy,
-    B: Allocator + Copy,
-> Runnable<R, F, Q, M, A, X, B> {
-    /// The Runnable of a task that was just spawned, by a share of its cell and the party that `fill` answered with. It makes no step.
-    pub fn new(
-        share: Share<R, F, Q, M, A, B>,
-        party: Party<F, Kept<F>, A>,
-        around: X,
-    ) -> Runnable<R, F, Q, M, A, X, B>
-        requires cell { party.seat.block ≡ share.block.id }
-        requires party { party.seat.me ≡ (view share.block.key.limit (fresh as_runnable ∷ []), []) }
-        ensures cell { result.inner.share ≡ share }
-        ensures around { result.around ≡ around }
-    {
-        let inner = RunnableSeat::new(share, party);
-        Runnable { inner, around }
-    }
-
-    // What the Runnable is made of.
-    pub(crate) fn into_parts(self) -> (RunnableSeat<R, F, Q, M, A, B>, X)
-        ensures inner { result.0 ≡ self.inner }
-        ensures around { result.1 ≡ self.around }
-    {
-        let Runnable { inner, around } = self;
-        (inner, around)
-    }
-}
-
-pub use block::{LastShare, MaybeShare, Share};
-pub use hold::CellHold;
-pub use spawn::LaidCell;
-pub use waker::TaskWaker;
-
-mod alter;
-mod attempt;
-mod awaiter;
-pub(crate) mod block;
-mod cancel;
-mod claim;
-mod deliver;
-mod detach;
-mod discard;
-mod dropping;
-mod ends;
-mod gain;
-mod hold;
-mod last;
-mod ledger;
-mod lent;
-mod lent_awaiter;
-mod poll;
-mod reference;
-mod register;
-mod run;
-mod share;
-mod spawn;
-mod start;
-mod step;
-mod task;
-mod wake;
-pub(crate) mod waker;
-mod whole;
-mod witness;

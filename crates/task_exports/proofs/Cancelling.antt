@@ -20,8 +20,8 @@ use Rattle.task_steps.specs.declared.stored.StoredAwaiter.{StoredAwaiter}
 use Rattle.task_steps.specs.Deeds.{act, row}
 use Rattle.task_steps.specs.Standing.{as_task, handed_over, rest_of, way_of}
 use Rattle.task_steps.specs.declared.places.Held.{Held}
-use Rattle.task_steps.specs.declared.task.Cancelled.{Cancelled}
-use Rattle.task_steps.specs.declared.task.Cancelled.TheVariants.{Busy, Idle}
+use Rattle.task_steps.specs.declared.found.Cancelled.{Cancelled}
+use Rattle.task_steps.specs.declared.found.Cancelled.TheVariants.{Busy, Idle}
 
 module _ {F T A : Type 0} where
   -- where no awaiter is due, the call is about to end; else it is to be taken

@@ -10,15 +10,15 @@ use Rattle.task_cell.specs.Belongs.{IsOf, Leaves, LeavesBy, limit_in}
 use Rattle.task_cell.specs.Calls.{DidWith, IsNew, Stands, limit_of}
 use Rattle.task_cell.specs.TaskPaths.{Detaches as DetachesRow, GivesTaskUp}
 use Rattle.task_cell.specs.declared.cell.Party.{Party}
-use Rattle.task_cell.specs.declared.cell.block.MaybeShare.{MaybeShare}
-use Rattle.task_cell.specs.declared.cell.block.Share.{Share}
+use Rattle.task_cell.specs.declared.cell.MaybeShare.{MaybeShare}
+use Rattle.task_cell.specs.declared.cell.Share.{Share}
 use Rattle.task_exports.specs.Hands.{IsGone}
 use Rattle.task_exports.specs.TaskAnswers.{Becomes, BecomesLast, Detaches, EndsDetach, is_last, is_shared, is_unclaimed, leaves_none, leaves_others}
 use Rattle.task_exports.specs.declared.hand.Hand.{Hand}
 use Rattle.task_laws.specs.declared.positions.Position.{Position}
 use Rattle.task_steps.specs.Standing.{as_runnable}
 use Rattle.task_steps.specs.declared.table.Deed.{Deed}
-use Rattle.task_steps.specs.declared.task.Detached.TheVariants.{Last, Shared, Unclaimed}
+use Rattle.task_steps.specs.declared.found.Detached.TheVariants.{Last, Shared, Unclaimed}
 
 module _ {F T A : Type 0} where
   pub is_runnable : (p q : Party F T A) → IsNew as_runnable p q → Stands as_runnable q

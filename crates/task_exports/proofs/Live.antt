@@ -5,8 +5,8 @@ use Rattle.task_steps.specs.Attempts.{HasMissed}
 use Rattle.task_steps.specs.Standing.{as_lent}
 use Rattle.task_core.specs.declared.traits.Yields.{Ghosts}
 use Rattle.task_cell.specs.Belongs.{HasMade, IsSame, Leaves, LeavesBy, cell_of, limit_in}
-use Rattle.task_cell.specs.declared.cell.block.Share.{Share}
-use Rattle.task_cell.specs.declared.cell.block.MaybeShare.{MaybeShare}
+use Rattle.task_cell.specs.declared.cell.Share.{Share}
+use Rattle.task_cell.specs.declared.cell.MaybeShare.{MaybeShare}
 use Rattle.task_cell.proofs.Sharing.{Taken}
 use Rattle.task_cell.proofs.Moved as moved
 

@@ -13,8 +13,8 @@ use Rattle.task_exports.specs.declared.hand.Hand.{Hand}
 use Rattle.task_exports.proofs.Goes.{goes_on}
 use Rattle.task_core.specs.declared.traits.Yields.{Ghosts}
 use Rattle.task_cell.specs.Belongs.{Leaves}
-use Rattle.task_cell.specs.declared.cell.block.Share.{Share}
-use Rattle.task_cell.specs.declared.cell.block.MaybeShare.{MaybeShare}
+use Rattle.task_cell.specs.declared.cell.Share.{Share}
+use Rattle.task_cell.specs.declared.cell.MaybeShare.{MaybeShare}
 use Rattle.task_cell.proofs.Sharing.{Taken}
 use Rattle.task_exports.proofs.Live.{Lives, lives_on}
 

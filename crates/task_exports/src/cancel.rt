@@ -17,7 +17,7 @@ use crate::hand::{CellParty, CellShare, Hand};
 use crate::handle::{Handle, put, take};
 use crate::step::{Step, make_at};
 use crate::task_answers::SCHEDULE_DUE;
-use task_steps::task::Cancelled;
+use task_steps::found::Cancelled;
 
 // Takes the place of the awaiter, or ends the call where somebody else is at it.
 fn notify_closed(share: &CellShare, party: &mut CellParty) -> u32

@@ -13,7 +13,7 @@ use crate::answers::{DROP_OUTPUT, LAST, MISSED, OVER, SCHEDULE};
 use crate::bits::{Answer, Bits, Ends, bring_if, close, open};
 use crate::hand::Hand;
 use crate::schedule::hand_on;
-use task_steps::task::Detached;
+use task_steps::found::Detached;
 
 // Gives the Task up: what its place has then, the answer, and the record of a party that has handed its share on.
 fn give_up(hand: Hand) -> (Hand, u32, Option<Hand>)

@@ -15,7 +15,7 @@ use crate::answers::{MISSED, TAKE};
 use crate::hand::{CellParty, CellShare};
 use crate::task_answers::{CLONE, CLOSED, OUTPUT, PENDING, TAKE_CLAIMED};
 use task_core::word::Word;
-use task_steps::poll::{has_ended, has_to_wait};
+use task_steps::found::{has_ended, has_to_wait};
 
 // The output was claimed on this word: takes the place of the awaiter where one is due and nobody else is at it.
 fn go_on_claimed(share: &CellShare, party: &mut CellParty, due: bool) -> u32

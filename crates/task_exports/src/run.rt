@@ -25,7 +25,7 @@ use crate::handle::{Handle, put, take};
 use crate::schedule::hand_on;
 use task_cell::Kept;
 use task_steps::places::Held;
-use task_steps::run::{PendingEnd, keeps_output};
+use task_steps::found::{PendingEnd, keeps_output};
 
 fn start(hand: Hand) -> (Hand, u32)
     requires hand { IsLive hand }

@@ -10,7 +10,7 @@ use crate::answers::{LAST, OVER, SCHEDULE};
 use crate::bits::{Bits, Ends, bring_if, close, open};
 use crate::hand::Hand;
 use crate::schedule::hand_on;
-use task_steps::waker::Dropped;
+use task_steps::found::Dropped;
 
 // What the waker's place has then, the answer, and the record of a party that has handed its share on.
 fn drop_reference(hand: Hand) -> (Hand, u32, Option<Hand>)

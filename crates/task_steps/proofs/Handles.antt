@@ -7,18 +7,18 @@ use Rattle.task_steps.proofs.Vocabulary.{WakeRunning, WakeIdle, CancelIdle, EndC
 use Rattle.task_steps.proofs.Vocabulary.{State, bit, is_open, Event, Answer, Rest, Waker, Task, At, GivingUp, Detacher, Pending, Slots, Machine, census, Census, Holds, Deed, Member}
 use Rattle.task_steps.specs.Values.{Values}
 use Rattle.task_steps.specs.WakerScripts.{waking_task, brings_runnable, to_gain, to_wake, others_left, dropped_by, dropping_as, dropping_waker, ends_waker}
-use Rattle.task_steps.specs.declared.waker.Dropped.{Dropped}
-use Rattle.task_steps.specs.declared.waker.Dropped.TheVariants.{Shared as DroppedShared, Last as DroppedLast, Orphaned as DroppedOrphan}
+use Rattle.task_steps.specs.declared.found.Dropped.{Dropped}
+use Rattle.task_steps.specs.declared.found.Dropped.TheVariants.{Shared as DroppedShared, Last as DroppedLast, Orphaned as DroppedOrphan}
 use Rattle.task_steps.specs.TaskScripts.{closing, brings_share, detaching, ends_task, ends_last, to_cancel, to_detach, giving_task_up}
 use Rattle.task_steps.specs.RunScripts.{giving_up, ending_pending, ends_run, to_end_pending}
-use Rattle.task_steps.specs.declared.task.Cancelled.{Cancelled}
-use Rattle.task_steps.specs.declared.task.Cancelled.TheVariants.{Busy, Idle as Closed}
-use Rattle.task_steps.specs.declared.task.Detached.{Detached}
-use Rattle.task_steps.specs.declared.task.Detached.TheVariants.{Unclaimed, Shared, Last, Orphaned as OrphanedTask}
-use Rattle.task_steps.specs.declared.waker.Woken.{Woken}
-use Rattle.task_steps.specs.declared.waker.Woken.TheVariants.{Scheduled, Running, Idle}
-use Rattle.task_steps.specs.declared.run.PendingEnd.{PendingEnd}
-use Rattle.task_steps.specs.declared.run.PendingEnd.TheVariants.{Rescheduled, Idle as EndsIdle, Orphaned}
+use Rattle.task_steps.specs.declared.found.Cancelled.{Cancelled}
+use Rattle.task_steps.specs.declared.found.Cancelled.TheVariants.{Busy, Idle as Closed}
+use Rattle.task_steps.specs.declared.found.Detached.{Detached}
+use Rattle.task_steps.specs.declared.found.Detached.TheVariants.{Unclaimed, Shared, Last, Orphaned as OrphanedTask}
+use Rattle.task_steps.specs.declared.found.Woken.{Woken}
+use Rattle.task_steps.specs.declared.found.Woken.TheVariants.{Scheduled, Running, Idle}
+use Rattle.task_steps.specs.declared.found.PendingEnd.{PendingEnd}
+use Rattle.task_steps.specs.declared.found.PendingEnd.TheVariants.{Rescheduled, Idle as EndsIdle, Orphaned}
 use Rattle.task_steps.specs.Attempt.{word_after}
 use Rattle.task_steps.specs.Shares.{has_references}
 use Rattle.task_steps.proofs.Facts.{counted}

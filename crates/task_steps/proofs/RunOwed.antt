@@ -13,7 +13,7 @@ use Rattle.task_steps.specs.Steps.{work_first, awaiter_first}
 use Rattle.task_steps.specs.Scripts.{dropping_output}
 use Rattle.task_steps.specs.Attempt.{word_after}
 use Rattle.task_steps.specs.RunScripts.{giving_up, emptying, discarding, answering_ready, answering_pending, ending_pending, ending_closed, to_complete, to_end_pending}
-use Rattle.task_steps.specs.declared.run.PendingEnd.TheVariants.{Rescheduled, Idle, Orphaned}
+use Rattle.task_steps.specs.declared.found.PendingEnd.TheVariants.{Rescheduled, Idle, Orphaned}
 use Rattle.task_steps.proofs.Seen.{not_true}
 use Rattle.task_steps.proofs.Facts.{Queued, queued, counted}
 use Rattle.task_steps.proofs.Advance.{Placing, stays, takes_future, gives_work, lies_nowhere, future_lies, takes_awaiter, gives_awaiter, Steps}

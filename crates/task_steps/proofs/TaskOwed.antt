@@ -13,8 +13,8 @@ use Rattle.task_steps.specs.Steps.{saw_closed, work_first}
 use Rattle.task_steps.specs.Scripts.{dropping_output}
 use Rattle.task_steps.specs.Attempt.{word_after}
 use Rattle.task_steps.specs.TaskScripts.{closing, detaching, to_cancel, to_detach, giving_task_up}
-use Rattle.task_steps.specs.declared.task.Cancelled.TheVariants.{Busy, Idle}
-use Rattle.task_steps.specs.declared.task.Detached.TheVariants.{Unclaimed, Shared, Last, Orphaned}
+use Rattle.task_steps.specs.declared.found.Cancelled.TheVariants.{Busy, Idle}
+use Rattle.task_steps.specs.declared.found.Detached.TheVariants.{Unclaimed, Shared, Last, Orphaned}
 use Rattle.task_steps.proofs.Acts.{both}
 use Rattle.task_steps.proofs.Facts.{counted}
 use Rattle.task_steps.proofs.PollOwed.{output_lies, future_gone}

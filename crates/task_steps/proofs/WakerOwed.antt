@@ -11,8 +11,8 @@ use Rattle.task_core.specs.Rows.{found}
 use Rattle.task_steps.specs.Attempt.{word_after}
 use Rattle.task_steps.specs.Beside.{may_call}
 use Rattle.task_steps.specs.WakerScripts.{is_over, waking_task, to_gain, to_wake, dropping_as, dropping_waker, closing_orphan}
-use Rattle.task_steps.specs.declared.waker.Dropped.TheVariants.{Shared, Last, Orphaned}
-use Rattle.task_steps.specs.declared.waker.Woken.TheVariants.{Scheduled, Running, Idle}
+use Rattle.task_steps.specs.declared.found.Dropped.TheVariants.{Shared, Last, Orphaned}
+use Rattle.task_steps.specs.declared.found.Woken.TheVariants.{Scheduled, Running, Idle}
 use Rattle.task_steps.proofs.Bools.{never}
 use Rattle.task_steps.proofs.Seen.{true_right, left_true, right_true, not_true}
 use Rattle.task_steps.proofs.Facts.{counted}

@@ -7,8 +7,8 @@ use Rattle.task_core.specs.declared.acts.Act.TheVariants.{Unschedule, DropFuture
 use Rattle.task_core.specs.declared.acts.Act.TheVariants.{DiscardOpen, DiscardClosed, AnswerReady, StoreOutput, Complete, CompleteDetached}
 use Rattle.task_core.specs.declared.acts.Act.TheVariants.{AnswerPending, Reschedule, EndIdle, EndOrphaned, EndCall, EndClosed}
 use Rattle.task_steps.specs.Attempt.{Attempt, no_end, no_acts}
-use Rattle.task_steps.specs.declared.run.PendingEnd.{PendingEnd}
-use Rattle.task_steps.specs.declared.run.PendingEnd.TheVariants.{Rescheduled, Idle, Orphaned}
+use Rattle.task_steps.specs.declared.found.PendingEnd.{PendingEnd}
+use Rattle.task_steps.specs.declared.found.PendingEnd.TheVariants.{Rescheduled, Idle, Orphaned}
 use Rattle.task_steps.specs.WakerScripts.{others_left}
 
 -- SCHEDULED is cleared, after the future was dropped

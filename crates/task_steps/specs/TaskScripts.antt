@@ -6,10 +6,10 @@ use Rattle.task_core.specs.declared.acts.Act.{Act}
 use Rattle.task_core.specs.declared.acts.Act.TheVariants.{LookFinished, CancelOver, CancelBusy, CancelIdle, GiveUpOutput, DetachOrphan}
 use Rattle.task_core.specs.declared.acts.Act.TheVariants.{DetachLast, Detach, EndCall}
 use Rattle.task_steps.specs.Attempt.{Attempt, no_end, no_acts}
-use Rattle.task_steps.specs.declared.task.Cancelled.{Cancelled}
-use Rattle.task_steps.specs.declared.task.Cancelled.TheVariants.{Busy, Idle}
-use Rattle.task_steps.specs.declared.task.Detached.{Detached}
-use Rattle.task_steps.specs.declared.task.Detached.TheVariants.{Unclaimed, Shared, Last, Orphaned}
+use Rattle.task_steps.specs.declared.found.Cancelled.{Cancelled}
+use Rattle.task_steps.specs.declared.found.Cancelled.TheVariants.{Busy, Idle}
+use Rattle.task_steps.specs.declared.found.Detached.{Detached}
+use Rattle.task_steps.specs.declared.found.Detached.TheVariants.{Unclaimed, Shared, Last, Orphaned}
 use Rattle.task_steps.specs.WakerScripts.{is_over}
 
 -- the load of `is_finished`

@@ -7,10 +7,10 @@ use Rattle.task_core.specs.declared.acts.Act.{Act}
 use Rattle.task_core.specs.declared.acts.Act.TheVariants.{GainReference, FindLimit, DropWaker, DropLastWaker, OrphanTask}
 use Rattle.task_core.specs.declared.acts.Act.TheVariants.{CloseOrphan, WakeOver, WakeScheduled, WakeRunning, WakeIdle, EndCall}
 use Rattle.task_steps.specs.Attempt.{Attempt, only}
-use Rattle.task_steps.specs.declared.waker.Dropped.{Dropped}
-use Rattle.task_steps.specs.declared.waker.Dropped.TheVariants.{Shared, Last, Orphaned}
-use Rattle.task_steps.specs.declared.waker.Woken.{Woken}
-use Rattle.task_steps.specs.declared.waker.Woken.TheVariants.{Scheduled, Running, Idle}
+use Rattle.task_steps.specs.declared.found.Dropped.{Dropped}
+use Rattle.task_steps.specs.declared.found.Dropped.TheVariants.{Shared, Last, Orphaned}
+use Rattle.task_steps.specs.declared.found.Woken.{Woken}
+use Rattle.task_steps.specs.declared.found.Woken.TheVariants.{Scheduled, Running, Idle}
 
 -- the count is at the limit
 abbrev pub at_limit : ℕ → State → Bool

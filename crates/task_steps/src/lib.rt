@@ -1,4 +1,4 @@
-//! The table of a cell, what its seats know, and the steps on it by name. Each step keeps the rule of the table.
+//! The table of a cell, what its seats know, and how steps on it are made. Each step keeps the rule of the table.
 //! It stands on the machine of `task_laws`, on the kit's `atomic_table`, and on `counted_block`.
 //! A user calls nothing of it; `task_cell` builds its calls of these steps.
 //! All that is public is so for `task_cell` and its claims.
@@ -6,20 +6,13 @@
 #![tactic(auto)]
 
 pub mod attempt;
-pub mod common;
+pub mod found;
 pub mod kept;
 pub mod places;
-pub mod poll;
-pub mod run;
 pub mod script;
-pub mod spawn;
-pub mod start;
 pub mod stored;
 pub mod storing;
 pub mod table;
-pub mod task;
-pub mod waker;
-pub mod witness;
 
 ghost use Rattle.task_steps.specs.Left.{EmptyAtClose};
 ghost use Rattle.task_steps.specs.Values.{values_of};

@@ -76,7 +76,7 @@ pub struct Terms<F> {
 /// The rule of the table: there is an interleaving of the machine that ends in the present word, and what lies in the place of the work comes from the future that was spawned.
 pub struct Law;
 
-impl<F: Yields, A> BlockRule<Slot<F, Kept<F>>, Option<StoredAwaiter<A>>, View, Terms<F>> for Law {
+impl<F: Yields, A> BlockRule<Slot<F, Kept<F>>, Stored<A>, View, Terms<F>> for Law {
     ghost use Rattle.task_steps.specs.Rule.{RuleHolds, opening_view};
     ghost use Rattle.task_steps.specs.Shares.{shares_out};
     ghost use Rattle.task_steps.specs.Values.{values_of};
@@ -88,24 +88,19 @@ impl<F: Yields, A> BlockRule<Slot<F, Kept<F>>, Option<StoredAwaiter<A>>, View, T
     ghost out = { shares_out };
 }
 
+/// What lies in the place of the awaiter, which is the second.
+pub type Stored<A> = Option<StoredAwaiter<A>>;
+
 /// What lies in a place of a task's block, as contracts see it: the work in the first, an awaiter or none in the second.
-pub type TaskPlace<F, T, A> = Place<Slot<F, T>, Option<StoredAwaiter<A>>>;
+pub type TaskPlace<F, T, A> = Place<Slot<F, T>, Stored<A>>;
 
 /// A share of a task's block: one word, a place for the future and then the output, one for the awaiter, and what all handles see.
-pub type Block<F, A, V, B> = Share<
-    Slot<F, Kept<F>>,
-    Option<StoredAwaiter<A>>,
-    View,
-    Terms<F>,
-    Law,
-    V,
-    B,
->;
+pub type Block<F, A, V, B> = Share<Slot<F, Kept<F>>, Stored<A>, View, Terms<F>, Law, V, B>;
 
 /// A share that a step may have made or left.
 pub type MaybeBlock<F, A, V, B> = MaybeShare<
     Slot<F, Kept<F>>,
-    Option<StoredAwaiter<A>>,
+    Stored<A>,
     View,
     Terms<F>,
     Law,
@@ -114,47 +109,23 @@ pub type MaybeBlock<F, A, V, B> = MaybeShare<
 >;
 
 /// What the owner of the last share of a task's block keeps, once no handle is left.
-pub type LastBlock<F, A, V, B> = LastShare<
-    Slot<F, Kept<F>>,
-    Option<StoredAwaiter<A>>,
-    View,
-    Terms<F>,
-    Law,
-    V,
-    B,
->;
+pub type LastBlock<F, A, V, B> = LastShare<Slot<F, Kept<F>>, Stored<A>, View, Terms<F>, Law, V, B>;
 
 /// A hold of a task's block.
-pub type BlockHold<F, A, V, B> = Hold<
-    Slot<F, Kept<F>>,
-    Option<StoredAwaiter<A>>,
-    View,
-    Terms<F>,
-    Law,
-    V,
-    B,
->;
+pub type BlockHold<F, A, V, B> = Hold<Slot<F, Kept<F>>, Stored<A>, View, Terms<F>, Law, V, B>;
 
 /// What is left of a share for its seats.
-pub type BlockLedger<F, A, V, B> = Ledger<
-    Slot<F, Kept<F>>,
-    Option<StoredAwaiter<A>>,
-    View,
-    Terms<F>,
-    Law,
-    V,
-    B,
->;
+pub type BlockLedger<F, A, V, B> = Ledger<Slot<F, Kept<F>>, Stored<A>, View, Terms<F>, Law, V, B>;
 
 /// The seat of a task's block.
-pub type TaskSeat<F, T, A> = Seat<Slot<F, T>, Option<StoredAwaiter<A>>, View>;
+pub type TaskSeat<F, T, A> = Seat<Slot<F, T>, Stored<A>, View>;
 
 /// The word of a task that was just spawned: scheduled, with its Task, and one reference.
 const OPENING: u64 = SCHEDULED | TASK | REFERENCE;
 
 /// The memory of a task, one allocation, with what all handles will see. Its future is still to come, so it must be filled.
 pub struct Laid<F, T, A, V, B: Allocator> {
-    whole: Box<Inner<Slot<F, T>, Option<StoredAwaiter<A>>, V>, B>,
+    whole: Box<Inner<Slot<F, T>, Stored<A>, V>, B>,
     ghost opens: { (whole.value.word ≡ OPENING) × (whole.value.holds ≡ 0) × (whole.value.second ≡ None) },
 }
 

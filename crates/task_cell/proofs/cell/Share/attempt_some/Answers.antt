@@ -1,0 +1,37 @@
+use Rattle.task_cell.proofs.Vocabulary.{inr, sym, refl, ap, ◌∙◌}
+use Rattle.std.proofs.Common.{arith}
+use Rattle.task_cell.proofs.Attempts.{seeing_first, seeing_both, looks_more, undecided, may_still, changed_after}
+use Rattle.task_cell.proofs.cell.Share.attempt_some.Goals as goal
+
+pub loop-round-init : goal.loop-round-init
+loop-round-init g c = let s = c.requires.seen in record { cell = refl; seat = refl; room = c.requires.room; seeing = seeing_first c.args.word c.args.party.now.seat.me s.0 s.1 s.2; looked = omega arith }
+
+pub try_once-requires-clause-allowed : goal.try_once-requires-clause-allowed
+try_once-requires-clause-allowed g c = let i = c.loop-round.invariant in may_still _ _ _ _ _ _ g.P.Change.attempt c.loop-round.word refl i.seat i.seeing c.requires.allowed
+
+pub returns-in-Made-clause-tried : goal.returns-in-Made-clause-tried
+returns-in-Made-clause-tried g c = changed_after _ _ g.P.Change.attempt c.loop-round.word c.in-Made.row _ _ _ refl c.loop-round.invariant.seeing c.in-Made.ensures.tried
+
+pub try_once-requires-clause-cell : goal.try_once-requires-clause-cell
+try_once-requires-clause-cell g c = c.loop-round.invariant.cell ∙ c.requires.cell
+
+pub try_once-requires-clause-limit : goal.try_once-requires-clause-limit
+try_once-requires-clause-limit g c = let ends = g.P.Change.attempt.ends in λ w. ap (λ m. ends m.0.limit w) c.loop-round.invariant.seeing.is ∙ c.requires.limit w
+
+pub returns-in-Made-clause-seat : goal.returns-in-Made-clause-seat
+returns-in-Made-clause-seat g c = (c.in-Made.ensures.seat.0 ∙ c.loop-round.invariant.cell, c.in-Made.ensures.seat.1 ∙ c.loop-round.invariant.seat)
+
+pub returns-in-Ended-clause-seat : goal.returns-in-Ended-clause-seat
+returns-in-Ended-clause-seat g c = (c.in-Ended.ensures.seat.0 ∙ c.loop-round.invariant.cell, c.in-Ended.ensures.seat.1 ∙ c.loop-round.invariant.seat)
+
+pub returns-then-bits-clause-looked : goal.returns-then-bits-clause-looked
+returns-then-bits-clause-looked g c = inr (undecided g.P.Change.attempt _ c.loop-round.word c.in-Again.found (sym c.bits.ensures ∙ (c.if-bits.true ∙ c.bits-in-Again.ensures)) c.in-Again.ensures.again.1)
+
+pub loop-round-preserved : goal.loop-round-preserved
+loop-round-preserved g c = let i = c.loop-round.invariant in let e = c.in-Again.ensures in record {
+  cell = e.seat.0 ∙ i.cell;
+  seat = e.seat.1 ∙ i.seat;
+  room = e.tried.0;
+  seeing = seeing_both c.loop-round.word c.in-Again.found c.args.party.now.seat.me c.loop-round.party.seat.me c.try_once.new.party.seat.me i.seeing e.tried.1;
+  looked = looks_more c.loop-round.round c.loop-round.word c.in-Again.found c.args.party.now.seat.me c.loop-round.party.seat.me c.try_once.new.party.seat.me i.seeing e.again.0 (λ h. c.if-bits.false (c.bits.ensures ∙ (h ∙ sym c.bits-in-Again.ensures))) i.looked;
+}

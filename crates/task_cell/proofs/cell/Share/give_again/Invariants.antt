@@ -1,0 +1,13 @@
+use Rattle.task_cell.proofs.Vocabulary.{◌≡◌, HasSeen}
+use Rattle.task_cell.specs.Belongs.{IsSame}
+use Rattle.task_cell.proofs.cell.Share.give_again.Given as goal
+use Rattle.task_core.specs.Word.{HasRoom}
+
+abbrev pub invariant-loop : goal.invariant-loop
+invariant-loop g l = record {
+  cell : l.party.seat.block ≡ l.fn.party.seat.block;
+  seat : l.party.seat.id ≡ l.fn.party.seat.id;
+  same : IsSame l.fn.self l.share;
+  room : HasRoom l.word;
+  seeing : HasSeen l.word l.fn.party.seat.me l.party.seat.me;
+}

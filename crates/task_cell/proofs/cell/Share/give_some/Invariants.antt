@@ -1,0 +1,14 @@
+use Rattle.task_cell.proofs.Vocabulary.{◌≡◌, HasLooked, HasSeen}
+use Rattle.task_cell.specs.Belongs.{IsSame}
+use Rattle.task_cell.proofs.cell.Share.give_some.Given as goal
+use Rattle.task_core.specs.Word.{HasRoom}
+
+abbrev pub invariant-loop-round : goal.invariant-loop-round
+invariant-loop-round g l = record {
+  cell : l.party.seat.block ≡ l.fn.party.seat.block;
+  seat : l.party.seat.id ≡ l.fn.party.seat.id;
+  same : IsSame l.fn.self l.share;
+  room : HasRoom l.word;
+  seeing : HasSeen l.word l.fn.party.seat.me l.party.seat.me;
+  looked : HasLooked l.round l.fn.party.seat.me l.party.seat.me;
+}

@@ -1,0 +1,14 @@
+use Rattle.task_cell.proofs.PollMoved.{may_look, looks_so, finds_it_ended}
+use Rattle.task_cell.proofs.cell.Share.look.Goals as goal
+
+pub change-requires-clause-allowed : goal.change-requires-clause-allowed
+change-requires-clause-allowed g c = let s = c.requires.party in (may_look _ _ _ _ _ c.args.party.now s.0 s.1).0
+
+pub change-requires-clause-shares : goal.change-requires-clause-shares
+change-requires-clause-shares g c = let s = c.requires.party in (may_look _ _ _ _ _ c.args.party.now s.0 s.1).1
+
+pub returns-clause-path : goal.returns-clause-path
+returns-clause-path g c = let s = c.requires.party in looks_so _ s.0 c.change.result c.args.party.now c.change.new.party s.1 c.change.ensures.cell c.change.ensures.changed c.change.ensures.ended
+
+pub returns-clause-ended : goal.returns-clause-ended
+returns-clause-ended g c = finds_it_ended _ _ c.change.result c.args.party.now c.change.new.party c.change.ensures.changed c.change.ensures.ended

@@ -1,0 +1,6 @@
+use Rattle.task_cell.proofs.Vocabulary.{AwaiterInHand, wakes}
+use Rattle.task_cell.proofs.Steps.{may_note}
+use Rattle.task_cell.proofs.share.Ledger.note_woken.Goals as goal
+
+pub note-requires-clause-allowed : goal.note-requires-clause-allowed
+note-requires-clause-allowed g c = let s = c.requires.party in may_note _ c.args.party.now (AwaiterInHand s.0 s.1) s.2 _ s.3 (wakes _ s.0 s.1 _ _)
