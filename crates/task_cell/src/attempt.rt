@@ -9,7 +9,7 @@ ghost use Rattle.task_steps.specs.Steps.{Makes};
 ghost use Rattle.task_steps.specs.declared.table.Tries.{Tries};
 ghost use Rattle.atomic_table.specs.Table.{step};
 ghost use Rattle.task_cell.specs.Belongs.{IsOf, IsSame, Leaves, LeavesBy, limit_in, values_in};
-ghost use Rattle.task_cell.specs.Calls.{BringsShare, EndsShare, KeepsShares, MayWrite, MayMake, MayGiveUp, MaySplit, deeds};
+ghost use Rattle.task_cell.specs.Calls.{BringsShare, EndsShare, MayWrite, MayMake, MayGiveUp, MaySplit, deeds};
 ghost use mathlib.Core.Option.{none};
 ghost use prog.Atomic.{either};
 

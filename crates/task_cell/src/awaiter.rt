@@ -1,5 +1,5 @@
 //! The awaiter that a poll's caller lends to it, and the stored one, which whoever ends or closes the task takes out.
-ghost use Rattle.std.specs.Prelude.{◌≡◌, ℕ, Bool, Ok, Err, IfOk, IfErr, ◌||◌, ◌∷◌, [], List, Option, true};
+ghost use Rattle.std.specs.Prelude.{◌≡◌, ℕ, Ok, Err, IfOk, IfErr, ◌||◌, ◌∷◌, [], List, Option, true};
 ghost use Rattle.task_core.specs.declared.acts.Act.TheVariants.{DropAwaiter, WakeAwaiter};
 ghost use Rattle.task_laws.specs.Table.{after_waking, may_drop, notifies};
 ghost use Rattle.task_laws.specs.declared.positions.NotifyingCall.{NotifyingCall};

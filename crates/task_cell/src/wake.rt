@@ -1,6 +1,5 @@
 //! A wake of the task, and how its Runnable is handed to the schedule value.
 ghost use Rattle.std.specs.Prelude.{◌≡◌, ◌<◌, ◌-◌, ◌^◌, List, [], ◌∷◌, IfSome, IfOk, IfErr, None, false, true};
-ghost use Rattle.task_core.specs.Word.{HasRoom};
 ghost use Rattle.task_core.specs.declared.acts.Act.TheVariants.{HandOver, EndCall};
 ghost use Rattle.task_laws.specs.declared.positions.Answer.{Answer};
 ghost use Rattle.task_laws.specs.declared.positions.OnceDelivered.TheVariants.{ThenEnds};
@@ -9,7 +8,6 @@ ghost use Rattle.task_laws.specs.declared.positions.Position.TheVariants.{Delive
 ghost use Rattle.task_steps.specs.Attempts.{HasChanged, HasMissed};
 ghost use Rattle.task_steps.specs.Beside.{waking_anew, without_newest, newest};
 ghost use Rattle.task_steps.specs.Deeds.{act};
-ghost use Rattle.task_steps.specs.Rule.{view, fresh};
 ghost use Rattle.task_steps.specs.Seats.{handing_over, runnable_of};
 ghost use Rattle.task_steps.specs.Standing.{as_lent, as_runnable, as_deliverer, hands_over, handed_over, as_ended};
 ghost use Rattle.task_steps.specs.Values.{values_of};

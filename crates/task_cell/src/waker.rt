@@ -1,5 +1,5 @@
 //! Wakers: what they hold, and their calls.
-ghost use Rattle.std.specs.Prelude.{◌≡◌, ℕ, [], ◌∷◌, IfOk, IfErr, true, false, List, IfSome, is_some};
+ghost use Rattle.std.specs.Prelude.{◌≡◌, [], ◌∷◌, IfOk, IfErr, true, false, List, IfSome, is_some};
 ghost use Rattle.task_steps.specs.Rule.{view, fresh};
 ghost use Rattle.task_steps.specs.Standing.{as_waker, as_lent};
 ghost use Rattle.task_steps.specs.Witness.{Witness};
@@ -10,7 +10,7 @@ ghost use Rattle.task_cell.specs.Gained.{HasFoundLimit, HasGained};
 ghost use Rattle.task_cell.specs.Handed.{HandedOver};
 ghost use Rattle.task_cell.specs.WakerCalls.{IsClone, WasGivenUp, WokeBy};
 ghost use Rattle.task_cell.specs.WakerPaths.{WakerDropPath, WakesTask};
-ghost use Rattle.task_cell.specs.Wakers.{is_owned, waker_me};
+ghost use Rattle.task_cell.specs.Wakers.{is_owned};
 
 use crate::cell::{EndedCall, Hold, Party, Share, WakerSeat};
 use crate::runnable::Runnable;
