@@ -2,7 +2,7 @@
 use Rattle.task_steps.specs.Values.{Values}
 use Rattle.task_steps.specs.Rule.{IsFuture, IsOutput}
 use Rattle.task_steps.specs.declared.table.Slot.TheVariants.{Empty, Future, Output}
-use Rattle.task_steps.specs.declared.stored.StoredAwaiter.{StoredAwaiter}
+use Rattle.task_steps.specs.declared.kept.StoredAwaiter.{StoredAwaiter}
 use Rattle.task_cell.proofs.Vocabulary.{◌≡◌, ℕ, Bool, true, false, List, [], ◌∷◌, Option, refl, sym, ap, ◌∙◌, subst, Me, rest, Position, owns_awaiter, Slot, TaskPlace, First, Second, work_first, awaiter_first, Deed, View, Party, has_work, Works, Awaits}
 use Rattle.task_cell.proofs.Vocabulary.{Carries, Carried, DidWith}
 

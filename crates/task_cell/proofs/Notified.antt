@@ -1,6 +1,6 @@
 -- What the steps of a notifier come to.
 use Rattle.task_steps.specs.Values.{Values}
-use Rattle.task_steps.specs.declared.stored.StoredAwaiter.{StoredAwaiter}
+use Rattle.task_steps.specs.declared.kept.StoredAwaiter.{StoredAwaiter}
 use Rattle.task_cell.proofs.Vocabulary.{◌≡◌, ℕ, Bool, true, false, not, ◌&&◌, ◌||◌, List, [], ◌∷◌, Option, Some, None, refl, sym, ap, ◌∙◌, subst, if◌then◌else◌, State, NotifyingCall, Notifier}
 use Rattle.task_cell.proofs.Vocabulary.{Releaser, MissNotify, BeginNotify, TakeAwaiter, EndNotify, after_taking, TaskPlace, Deed, Party, Waits, Makes, taking_awaiter, releasing_awaiter}
 use Rattle.task_cell.proofs.Vocabulary.{awaiter_first, held, Fits, position, places_of, StandsWith, DidWith, Notifies, misses, finds_none, takes_awaiter, row, act, way_of, on_work, on_free, same_way, arith}

@@ -1,5 +1,5 @@
 -- The paths of a registering, put together from those of its parts.
-use Rattle.task_steps.specs.declared.stored.StoredAwaiter.{StoredAwaiter}
+use Rattle.task_steps.specs.declared.kept.StoredAwaiter.{StoredAwaiter}
 use Rattle.task_cell.proofs.Vocabulary.{◌≡◌, ℕ, Bool, true, false, Option, Some, None, List, [], ◌∷◌, ◌++◌, refl, subst, State, Looking, UnusedClone, Registered, TookBack, CloneInHand, CloneAwaiter}
 use Rattle.task_cell.proofs.Vocabulary.{StoreAwaiter, TakeAwaiter, FindNotify, BeginRegister, EndRegister, EndRegisterNotified, DropAwaiter, WakeAwaiter, after_storing, Deed, Party}
 use Rattle.task_cell.proofs.Vocabulary.{Waits, position, places_of, StandsWith, DidWith, Did, row, act, RegisterPath, dropped_if, BeginsRegister, begins, finds_one, EndsRegister, ends, finds_notified}

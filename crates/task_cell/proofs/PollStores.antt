@@ -1,5 +1,5 @@
 -- What a clone comes to that is put into the awaiter slot, by what stood there.
-use Rattle.task_steps.specs.declared.stored.StoredAwaiter.{StoredAwaiter}
+use Rattle.task_steps.specs.declared.kept.StoredAwaiter.{StoredAwaiter}
 use Rattle.task_cell.proofs.Vocabulary.{◌≡◌, ℕ, Bool, true, false, Option, Some, None, List, [], ◌∷◌, refl, sym, subst, held, Waits, Position, Registered, DropAwaiter, after_storing, Party}
 use Rattle.task_cell.proofs.Vocabulary.{position, places_of, StandsWith, DidWith, act, dropped_if, poll_number, TaskPlace, awaiter_first}
 use Rattle.task_laws.specs.declared.positions.Position.TheVariants.{OldAwaiterInHand}

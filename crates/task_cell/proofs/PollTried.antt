@@ -1,6 +1,6 @@
 -- What the looks of a poll come to that are tried a bounded number of times, and the clone that is put in.
 use Rattle.task_steps.specs.Values.{Values}
-use Rattle.task_steps.specs.declared.stored.StoredAwaiter.{StoredAwaiter}
+use Rattle.task_steps.specs.declared.kept.StoredAwaiter.{StoredAwaiter}
 use Rattle.task_cell.proofs.Vocabulary.{◌≡◌, ℕ, true, Option, Some, None, [], sym, ◌∙◌, Result, Err, IfOk, IfErr, IfSome, State, Looking, after_storing, Party, Waits}
 use Rattle.task_cell.proofs.Vocabulary.{saw_ended, deeds, Stands, DidWith, has_ended, as_task, HasChanged, HasEnded, Looks, LooksAgain, held, awaiter_first}
 use Rattle.task_steps.specs.PollScripts.{to_look, to_look_again}

@@ -1,6 +1,6 @@
 -- The paths of a poll, put together from those of its parts.
 use Rattle.task_steps.specs.Values.{Values}
-use Rattle.task_steps.specs.declared.stored.StoredAwaiter.{StoredAwaiter}
+use Rattle.task_steps.specs.declared.kept.StoredAwaiter.{StoredAwaiter}
 use Rattle.task_cell.proofs.Vocabulary.{◌≡◌, ℕ, Bool, true, false, Option, Some, None, List, [], ◌∷◌, ◌++◌, refl, sym, ap, ◌∙◌, subst, State, Position, NotifyingCall, OfPoll, OfClaim, Notifier}
 use Rattle.task_cell.proofs.Vocabulary.{AwaiterInHand, TookOutput, Answering, HandOutOutput, TakeAwaiter, DropAwaiter, WakeAwaiter, EndCall, BeginNotify, MissNotify, EndNotify, IsClosed, after_waking}
 use Rattle.task_cell.proofs.Vocabulary.{may_drop, notifies, Slot, Deed, Party, Fits, position, places_of, StandsWith, Stands, DidWith, Did, Notifies, misses, finds_none, takes_awaiter, row, act}

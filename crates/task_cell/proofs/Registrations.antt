@@ -1,7 +1,7 @@
 -- What a poll has done for the awaiter that it was lent, over what it did before and does after.
 use Rattle.task_cell.proofs.Vocabulary.{◌≡◌, ℕ, Some, List, [], ◌∷◌, ◌++◌, subst, Position, Registered, EndRegister, Deed, Party, position, Did, row, poll_number, awaiter_first}
 use Rattle.task_core.specs.declared.traits.Wake.{Ghosts}
-use Rattle.task_steps.specs.declared.stored.StoredAwaiter.{StoredAwaiter}
+use Rattle.task_steps.specs.declared.kept.StoredAwaiter.{StoredAwaiter}
 use Rattle.task_cell.specs.Stores.{GivesBack, Registration, is_stored, is_woken, clone_is_woken}
 use Rattle.task_cell.proofs.Moved.{did_then}
 

@@ -1,6 +1,6 @@
 -- The rule at the spawn and at the end.
 use Rattle.task_steps.specs.Values.{Values}
-use Rattle.task_steps.specs.declared.stored.StoredAwaiter.{StoredAwaiter}
+use Rattle.task_steps.specs.declared.kept.StoredAwaiter.{StoredAwaiter}
 use Rattle.task_cell.proofs.Vocabulary.{◌≡◌, ℕ, zero, suc, ◌≢◌, true, List, [], ◌∷◌, ◌++◌, get_or, set, sym, refl, ap, ◌∙◌, subst, arith}
 use Rattle.task_cell.proofs.Vocabulary.{some, some-injective, some-ne-none, Me, Splits, Final, Seen, Position, At}
 use Rattle.task_cell.proofs.Vocabulary.{Runnable, Task, Slot, Member, View, Party, member, view, fresh, opening_view, IsEmpty, Waits, Explains}

@@ -1,6 +1,6 @@
 -- A cancel and a detach, put together from their steps.
 use Rattle.task_steps.specs.Values.{Values}
-use Rattle.task_steps.specs.declared.stored.StoredAwaiter.{StoredAwaiter}
+use Rattle.task_steps.specs.declared.kept.StoredAwaiter.{StoredAwaiter}
 use Rattle.task_cell.proofs.Vocabulary.{◌≡◌, ℕ, Bool, true, false, List, [], ◌∷◌, ◌++◌, Option, Some, None, refl, sym, subst, State, Nothing, Deliverer, Emptier, OutputCloser}
 use Rattle.task_cell.proofs.Vocabulary.{OfCancel, ThenEnds, CancelOver, CancelBusy, CancelIdle, GiveUpOutput, DropOutput, DetachOrphan, DetachLast, Detach, EmptySlots, EndCall, HandOver, notifies}
 use Rattle.task_cell.proofs.Vocabulary.{after_cancelling, after_handing_over, Deed, Party, Busy, Unclaimed, Fits, position, StandsWith, Stands, DidWith}

@@ -10,7 +10,7 @@ use Rattle.task_core.specs.declared.acts.Act.TheVariants.{TakeAwaiter, FindNotif
 use Rattle.task_core.specs.declared.acts.Act.TheVariants.{DropAwaiter, WakeAwaiter, EndCall, BeginNotify, MissNotify, EndNotify}
 use Rattle.task_laws.specs.Table.{notifies, first_look, after_storing}
 use Rattle.task_steps.specs.declared.table.Slot.{Slot}
-use Rattle.task_steps.specs.declared.stored.StoredAwaiter.{StoredAwaiter}
+use Rattle.task_steps.specs.declared.kept.StoredAwaiter.{StoredAwaiter}
 use Rattle.task_steps.specs.declared.table.Deed.{Deed}
 use Rattle.task_cell.specs.declared.cell.Party.{Party}
 use Rattle.task_steps.specs.Values.{Values}

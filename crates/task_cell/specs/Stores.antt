@@ -7,7 +7,7 @@ use Rattle.task_laws.specs.declared.positions.Position.{Position}
 use Rattle.task_laws.specs.declared.positions.Position.TheVariants.{Registered}
 use Rattle.task_laws.specs.Table.{after_storing}
 use Rattle.task_steps.specs.declared.places.Held.{Held}
-use Rattle.task_steps.specs.declared.stored.StoredAwaiter.{StoredAwaiter}
+use Rattle.task_steps.specs.declared.kept.StoredAwaiter.{StoredAwaiter}
 use Rattle.task_steps.specs.declared.table.Deed.{Deed}
 use Rattle.task_steps.specs.Deeds.{row}
 use Rattle.task_steps.specs.Held.{held}

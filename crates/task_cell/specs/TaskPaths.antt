@@ -10,7 +10,7 @@ use Rattle.task_core.specs.declared.acts.Act.TheVariants.{CancelOver, CancelBusy
 use Rattle.task_core.specs.declared.acts.Act.TheVariants.{DetachLast, Detach, EmptySlots, EndCall, HandOver, BeginNotify, MissNotify}
 use Rattle.task_core.specs.declared.acts.Act.TheVariants.{TakeAwaiter, EndNotify, WakeAwaiter}
 use Rattle.task_steps.specs.declared.table.Slot.{Slot}
-use Rattle.task_steps.specs.declared.stored.StoredAwaiter.{StoredAwaiter}
+use Rattle.task_steps.specs.declared.kept.StoredAwaiter.{StoredAwaiter}
 use Rattle.task_steps.specs.declared.table.Deed.{Deed}
 use Rattle.task_cell.specs.declared.cell.Party.{Party}
 use Rattle.task_steps.specs.declared.found.Cancelled.{Cancelled}

@@ -15,7 +15,7 @@ use Rattle.task_cell.specs.Calls.{Fits, IsNew, Did, DidWith}
 use Rattle.task_steps.specs.Deeds.{row, act}
 use Rattle.task_steps.specs.Standing.{as_waker, as_lent, as_ended, as_deliverer}
 use Rattle.task_steps.specs.WakerScripts.{others_left}
-use Rattle.task_steps.specs.declared.stored.StoredAwaiter.{StoredAwaiter}
+use Rattle.task_steps.specs.declared.kept.StoredAwaiter.{StoredAwaiter}
 use Rattle.task_steps.specs.Steps.{awaiter_first}
 
 -- a gain, and whether there is a new waker: the count was below the limit, or at it

@@ -1,5 +1,5 @@
 -- Which awaiter a call has woken.
-use Rattle.task_steps.specs.declared.stored.StoredAwaiter.{StoredAwaiter}
+use Rattle.task_steps.specs.declared.kept.StoredAwaiter.{StoredAwaiter}
 
 -- an awaiter was woken that a poll has stored, under the number `stored_by`
 abbrev pub WokeStored : {A K : Type 0} → (A → K → Type 0) → Type 0

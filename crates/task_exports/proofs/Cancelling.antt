@@ -16,7 +16,7 @@ use Rattle.task_laws.specs.declared.positions.Answer.TheVariants.{Nothing}
 use Rattle.task_laws.specs.declared.positions.NotifyingCall.TheVariants.{OfCancel}
 use Rattle.task_laws.specs.declared.positions.Position.TheVariants.{AwaiterInHand, CallEnding, Deliverer, Notifier, Releaser}
 use Rattle.task_laws.specs.declared.positions.Rest.TheVariants.{Task}
-use Rattle.task_steps.specs.declared.stored.StoredAwaiter.{StoredAwaiter}
+use Rattle.task_steps.specs.declared.kept.StoredAwaiter.{StoredAwaiter}
 use Rattle.task_steps.specs.Deeds.{act, row}
 use Rattle.task_steps.specs.Standing.{as_task, handed_over, rest_of, way_of}
 use Rattle.task_steps.specs.declared.places.Held.{Held}

@@ -1,6 +1,6 @@
 -- What the steps by which calls end come to for their party.
 use Rattle.task_cell.specs.declared.cell.Party.{Party}
-use Rattle.task_steps.specs.declared.stored.StoredAwaiter.{StoredAwaiter}
+use Rattle.task_steps.specs.declared.kept.StoredAwaiter.{StoredAwaiter}
 use Rattle.task_cell.proofs.Vocabulary.{◌≡◌, ℕ, Bool, true, false, List, [], ◌∷◌, ◌++◌, Option, Some, None, ap, ◌∙◌, subst, State, Answer, Ended, Position, CallEnding, Emptier, Fits}
 use Rattle.task_cell.proofs.Vocabulary.{GiveUpReference, GiveUpLastReference, EndCall, Deed, GivesUp, not_last, last, DidWith, Did, IsNew, Stands, row, act, as_ended, rest_of, position, after_giving_up, HandOver, handed_over, limit_of, Me, View}
 use Rattle.task_cell.proofs.Vocabulary.{NotifyingCall, AwaiterInHand, WakeAwaiter, EmptySlots, OfRun, Ran, is_some, after_waking, way_of, places_of, TaskPlace, awaiter_first}

@@ -17,7 +17,7 @@ use Rattle.task_laws.specs.declared.positions.Position.TheVariants.{Answering, A
 use Rattle.task_laws.specs.declared.positions.Rest.{Rest}
 use Rattle.task_steps.specs.Rule.{Waits}
 use Rattle.task_steps.specs.Held.{held as hands}
-use Rattle.task_steps.specs.declared.stored.StoredAwaiter.{StoredAwaiter}
+use Rattle.task_steps.specs.declared.kept.StoredAwaiter.{StoredAwaiter}
 use Rattle.task_steps.proofs.Bools.{never}
 use Rattle.task_steps.specs.Deeds.{act, row}
 use Rattle.task_steps.specs.Standing.{as_task, poll_number, rest_of, way_of}

@@ -24,7 +24,7 @@ use Rattle.task_laws.specs.declared.positions.NotifyingCall.TheVariants.{OfClaim
 use Rattle.task_laws.specs.declared.positions.Position.{Position}
 use Rattle.task_laws.specs.declared.positions.Position.TheVariants.{Looking, Registrar, Releaser, TookBack, TookOutput, UnusedClone}
 use Rattle.task_steps.specs.Stored.{stored_by}
-use Rattle.task_steps.specs.declared.stored.StoredAwaiter.{StoredAwaiter}
+use Rattle.task_steps.specs.declared.kept.StoredAwaiter.{StoredAwaiter}
 use Rattle.task_steps.proofs.Bools.{never}
 use Rattle.task_steps.specs.Deeds.{act, row}
 use Rattle.task_steps.specs.PollScripts.{has_ended, has_output, has_to_wait}

@@ -13,7 +13,7 @@ use Rattle.task_laws.specs.Table.{after_waking}
 use Rattle.task_laws.specs.declared.positions.NotifyingCall.TheVariants.{OfClaim, OfPoll}
 use Rattle.task_laws.specs.declared.positions.PollAnswer.TheVariants.{IsClosed}
 use Rattle.task_laws.specs.declared.positions.Position.TheVariants.{Answering, AwaiterInHand, TookOutput}
-use Rattle.task_steps.specs.declared.stored.StoredAwaiter.{StoredAwaiter}
+use Rattle.task_steps.specs.declared.kept.StoredAwaiter.{StoredAwaiter}
 use Rattle.task_steps.specs.Deeds.{act, row}
 use Rattle.task_steps.specs.Standing.{as_task, poll_number, way_of}
 use Rattle.task_steps.specs.declared.places.Held.{Held}

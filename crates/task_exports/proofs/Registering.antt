@@ -14,7 +14,7 @@ use Rattle.task_laws.specs.declared.positions.Position.{Position}
 use Rattle.task_laws.specs.declared.positions.Position.TheVariants.{Looking, OldAwaiterInHand, Registered, Registrar, TookBack, UnusedClone}
 use Rattle.task_steps.specs.Held.{held}
 use Rattle.task_steps.specs.Stored.{stored_by}
-use Rattle.task_steps.specs.declared.stored.StoredAwaiter.{StoredAwaiter}
+use Rattle.task_steps.specs.declared.kept.StoredAwaiter.{StoredAwaiter}
 use Rattle.task_steps.proofs.Bools.{never}
 use Rattle.task_steps.specs.Deeds.{act, row}
 use Rattle.task_steps.specs.Rule.{Waits}

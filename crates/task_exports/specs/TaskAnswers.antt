@@ -16,7 +16,7 @@ use Rattle.task_laws.specs.declared.positions.Position.TheVariants.{Registered, 
 use Rattle.task_laws.specs.Table.{after_storing, notifies}
 use Rattle.task_steps.specs.Attempts.{HasMissed}
 use Rattle.task_steps.specs.Stored.{stored_by}
-use Rattle.task_steps.specs.declared.stored.StoredAwaiter.{StoredAwaiter}
+use Rattle.task_steps.specs.declared.kept.StoredAwaiter.{StoredAwaiter}
 use Rattle.task_steps.specs.declared.table.Deed.{Deed}
 use Rattle.task_steps.specs.declared.table.Slot.{Slot}
 use Rattle.task_steps.specs.Deeds.{row, act}

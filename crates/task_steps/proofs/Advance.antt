@@ -8,7 +8,7 @@ use Rattle.atomic_table.proofs.Lists as lists
 use Rattle.task_steps.proofs.Vocabulary.{bit, number_of, is_open, Position, Act, Slots, Outcome, Machine, scene, how_many, owns_awaiter, Invariant, First, Second, Slot, Empty, TaskPlace, Deed, Member, View}
 use Rattle.task_steps.specs.PollScripts.{has_ended}
 use Rattle.task_steps.specs.Values.{Values}
-use Rattle.task_steps.specs.declared.stored.StoredAwaiter.{StoredAwaiter}
+use Rattle.task_steps.specs.declared.kept.StoredAwaiter.{StoredAwaiter}
 use Rattle.task_steps.specs.Rule.{has_work, IsFuture, IsOutput, Lies, Waits, WorkAtHome, AwaiterAtHome, HomesAgree, RuleHolds}
 use Rattle.task_steps.specs.Steps.{work_first, awaiter_first, TakesFuture, TakesOutput, Works, Awaits, Carries, Carried, saw_over, saw_closed, saw_ended}
 use Rattle.task_steps.proofs.Acts.{leads}

@@ -9,7 +9,7 @@ use Rattle.task_steps.proofs.Vocabulary.{RefuseClone, Answering, Registrar, Unus
 use Rattle.task_steps.proofs.Vocabulary.{when, notifies, first_look, second_look, after_storing, Machine, scene, count, is_task_poll, owns_awaiter, Census, census, Awaiting, awaiting, HandshakeHolds, Holds, fits, state_of_number_of}
 use Rattle.task_steps.proofs.Vocabulary.{DropAwaiter, WakeAwaiter, fetch_and-awaiter_registering_notifying, Invariant, TaskPlace, Empty, Deed, Member}
 use Rattle.task_steps.specs.Values.{Values}
-use Rattle.task_steps.specs.declared.stored.StoredAwaiter.{StoredAwaiter}
+use Rattle.task_steps.specs.declared.kept.StoredAwaiter.{StoredAwaiter}
 use Rattle.task_steps.specs.Stored.{stored_by}
 use Rattle.task_steps.specs.Rule.{has_work, Waits}
 use Rattle.task_steps.specs.Steps.{and_then, spot, work_first, awaiter_first, TakesOutput, Works, Awaits}

@@ -10,8 +10,6 @@ pub mod found;
 pub mod kept;
 pub mod places;
 pub mod script;
-pub mod stored;
-pub mod storing;
 pub mod table;
 
 ghost use Rattle.task_steps.specs.Left.{EmptyAtClose};

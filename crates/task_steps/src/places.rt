@@ -4,8 +4,7 @@ ghost use Rattle.atomic_table.specs.Table.{rest};
 ghost use Rattle.task_steps.specs.Held.{held};
 ghost use Rattle.task_steps.specs.Steps.{work_first, awaiter_first};
 
-use crate::kept::Kept;
-use crate::stored::StoredAwaiter;
+use crate::kept::{Kept, StoredAwaiter};
 use crate::table::{Block, LastBlock, Slot, TaskSeat};
 use std::alloc::Allocator;
 use task_core::{Wake, Yields};

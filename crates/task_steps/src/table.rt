@@ -6,9 +6,8 @@ ghost use Rattle.task_steps.specs.declared.table.TheConstants.{OPENING};
 ghost use Rattle.task_steps.specs.declared.table.Slot.{Slot};
 ghost use Rattle.task_steps.specs.Seats.{is_spent};
 
-pub use crate::kept::Kept;
-pub use crate::stored::StoredAwaiter;
-use counted_block::{
+pub use crate::kept::{Kept, StoredAwaiter};
+pub use counted_block::{
     Bare, BlockRule, Hold, Inner, LastShare, Ledger, MaybeShare, Place, Seat, Share,
 };
 use std::alloc::{AllocFailed, Allocator};

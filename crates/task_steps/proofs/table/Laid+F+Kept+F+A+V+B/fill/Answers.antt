@@ -3,7 +3,7 @@ use Rattle.atomic_table.specs.Table.{opening}
 use Rattle.counted_block.specs.declared.place.Place.TheVariants.{First, Second}
 use Rattle.task_core.specs.Yielded.{Continued, unpolled}
 use Rattle.task_steps.specs.declared.kept.Kept.{Kept}
-use Rattle.task_steps.specs.declared.stored.StoredAwaiter.{StoredAwaiter}
+use Rattle.task_steps.specs.declared.kept.StoredAwaiter.{StoredAwaiter}
 use Rattle.task_steps.specs.declared.table.Slot.{Slot}
 use Rattle.task_steps.specs.Values.{values_of}
 use Rattle.task_steps.specs.Rule.{opening_view, RuleHolds}
