@@ -18,3 +18,5 @@ pub mod Signs
 pub mod Names
 pub mod Fields
 pub mod Fetching
+pub mod Owners
+pub mod Heard

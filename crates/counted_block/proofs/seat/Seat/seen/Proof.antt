@@ -1,5 +1,5 @@
 -- `seen` makes a value of no bytes, whose ghost field is the view of the seat.
-use Rattle.counted_block.proofs.Names.{◌≡◌, ℕ, List, [], ◌∷◌, refl, a_type, named, Val, vptr, inst_fn, SProp, emp, ‵, raw, ◌⊛◌, ◌$◌, ◌∵◌, ! }
+use Rattle.counted_block.proofs.Names.{◌≡◌, ℕ, [], ◌∷◌, refl, a_type, named, Val, vptr, inst_fn, SProp, emp, ‵, raw, ◌⊛◌, ◌$◌, ◌∵◌, !}
 use Rattle.counted_block.proofs.Names.{qed, by, keep, split, fjoin, use0, no_more, and_then, returns, enter, alloc_all, pass_all, free_all, get, agg, yes}
 use Rattle.counted_block.proofs.Names.{look_at, sets, tables, RattleType, owns, types_at, plain, nothing, param, layouts, Stays, stay_dropped, walk_of, Goes-dropped, fact, fact_i, RefOf, shr_vals, shr_Tells, alive}
 use Rattle.counted_block.proofs.Names.{proved, leaves, MarkerData, marker_val, marker_made}
