@@ -18,11 +18,10 @@ use Rattle.counted_block.specs.Layout.{at_value}
 use Rattle.counted_block.specs.Blocks.{place, is_all, of_last, owner_owns, owner_shares}
 use Rattle.counted_block.specs.Held.{content, looked_at, kept_of, lies_in}
 use Rattle.counted_block.proofs.Lending.{shows_laws, lends_owner}
-use Rattle.counted_block.proofs.last.LastShare.TheLaw.Statement.{statement}
 
 pub shares : (S W V K Y T A : RattleType) (g : Ghosts Y.Denot S.Denot W.Denot V.Denot K.Denot) (h : Alloc.Ghosts A.Denot) (LS : Laws S) (LW : Laws W) (LV : Laws V) (LK : Laws K) (LY : Laws Y)
     (LT : Laws T) (LA : Laws A)
-    → statement S W V K Y T A g h LS LW LV LK LY LT LA
+    → Rattle.counted_block.proofs.last.LastShare.TheLaw.Statement.statement S W V K Y T A g h LS LW LV LK LY LT LA
 shares S W V K Y T A g h LS LW LV LK LY LT LA = let Marked = Tuple (V ∷ K ∷ Y ∷ A ∷ []) in
     of_Lends (C.struct S W V K Y T A g h) (C.the_codes S.Denot W.Denot V.Denot K.Denot Y.Denot T.Denot A.Denot S.coded W.coded V.coded K.coded Y.coded T.coded A.coded (phantom.the_row Marked).coded)
     (C.the_heap S W V K Y T A g h) (C.the_lent S W V K Y T A g h) (λ d p. let k = h.dealloc_token d.heap in let z = d.id in let t = looked_at S W T k z d.value in

@@ -9,9 +9,7 @@ use Rattle.counted_block.proofs.Names.{first_body, tracked, seat_owns, seat_with
 use denote.Struct.OwningLaws.{part_in}
 use Rattle.counted_block.specs.contracts.share.Share as share
 use Rattle.counted_block.specs.contracts.seat.Seat as seat
-use Rattle.counted_block.specs.contracts.seat.Seat.first_mut.{ended, clauses}
-use Rattle.counted_block.specs.contracts.seat.Seat.first_mut.Key.{name as #self}
-use Rattle.counted_block.proofs.seat.Seat.first_mut.Statement.{statement}
+use Rattle.counted_block.specs.contracts.seat.Seat.first_mut as promised
 use Rattle.counted_block.proofs.seat.Seat.first_mut.Code as code
 
 -- what lies in a first slot, or w
@@ -19,15 +17,15 @@ abbrev first_of : {S W : Type 0} → S → Place S W → S
 first_of w (First x) = x
 first_of w (Second y) = w
 
-pub first_mut_spec : {M : Type 1} → statement M
+pub first_mut_spec : {M : Type 1} → Rattle.counted_block.proofs.seat.Seat.first_mut.Statement.statement M
 first_mut_spec 𝓤 𝓛 𝓜 𝓡 wired S₀ W₀ V₀ K₀ Y₀ T₀ A₀ _ _ _ _ _ _ _ g d h dh dd _ _ _ =
     let H = 𝓛.H in let machine = tables 𝓤 H 𝓜 𝓡 𝓡.env in let S : RattleType = param 0 S₀ in let W : RattleType = param 1 W₀ in let V = param 2 V₀ in let K = param 3 K₀ in
-    let Y = param 4 Y₀ in let R : RattleType = param 5 T₀ in let A = param 6 A₀ in let promise = ended S₀ W₀ V₀ K₀ Y₀ T₀ A₀ g d h dh dd in
-    let claims = clauses S₀ W₀ V₀ K₀ Y₀ T₀ A₀ g d h dh dd 𝓛 𝓜.mem 𝓡.returns in let types : Types seven = (S₀, (W₀, (V₀, (K₀, (Y₀, (T₀, (A₀, tt))))))) in
+    let Y = param 4 Y₀ in let R : RattleType = param 5 T₀ in let A = param 6 A₀ in let promise = promised.ended S₀ W₀ V₀ K₀ Y₀ T₀ A₀ g d h dh dd in
+    let claims = promised.clauses S₀ W₀ V₀ K₀ Y₀ T₀ A₀ g d h dh dd 𝓛 𝓜.mem 𝓡.returns in let types : Types seven = (S₀, (W₀, (V₀, (K₀, (Y₀, (T₀, (A₀, tt))))))) in
     let at_types = bounded seven types (dcons d (dcons dh (dcons dd dnil))) in let routine = inst_fn at_types code.function in let OwnRow : RattleType = share.the_row S W V K Y R A g h in
     let Sr : RattleType = seat.the_row S W V in let I = share_kind S W V K Y R A g h in let other = RefOf (0 ∷ []) tt (plain (λ _. OwnRow)) (λ _. tt) in let n : ℕ = 0 in
     let staying : Stays promise.signature.params promise.kept = (stay_dropped (RefMutOf (0 ∷ []) tt (plain (λ _. Sr)) (λ _. tt)) no, (stay_dropped other yes, tt)) in
-    proved 𝓛 promise staying claims 𝓜 𝓡 (Goes-spent_ref 𝓛 8 (0 ∷ []) tt (plain (λ _. Sr)), (Goes-dropped 𝓛 8 other yes (λ κs x f. refl), tt)) (#self at_types) routine
+    proved 𝓛 promise staying claims 𝓜 𝓡 (Goes-spent_ref 𝓛 8 (0 ∷ []) tt (plain (λ _. Sr)), (Goes-dropped 𝓛 8 other yes (λ κs x f. refl), tt)) (promised.Key.name at_types) routine
     (code.unfolded 𝓤 H 𝓜 𝓡 wired types d dh dd) (λ κs. (mut_vals, (shr_vals, tt))) (λ κs. (mut_Tells (named 0) κs.0 Sr, (shr_Tells (named 0) κs.0 OwnRow, tt))) (λ κs qs bounds a gh
     are. let self_block : ℕ = a.1.0.ref_ptr.0 in let self_offset : ℕ = a.1.0.ref_ptr.1 in let κ : Lft = κs.0 in let q : Share = qs.0 in let s : OwnRow.Denot = a.1.0.now in
     let x : R.Denot = s.value in let k = h.dealloc_token s.heap in let z : BlockId = s.id in let α : Lft = life z in let seat_block : ℕ = a.0.ref_ptr.0 in let seat_offset : ℕ = a.0.ref_ptr.1 in

@@ -12,24 +12,22 @@ use Rattle.counted_block.specs.contracts.share.Share as share
 use Rattle.counted_block.specs.contracts.share.MaybeShare as maybe_share
 use Rattle.counted_block.specs.contracts.seat.Seat as seat
 use Rattle.counted_block.proofs.Moving as moving
-use Rattle.counted_block.specs.contracts.share.Share.gain.{ended, clauses}
-use Rattle.counted_block.specs.contracts.share.Share.gain.Key.{name as #self}
-use Rattle.counted_block.proofs.share.Share.gain.Statement.{statement}
+use Rattle.counted_block.specs.contracts.share.Share.gain as promised
 use Rattle.counted_block.proofs.share.Share.gain.Code as code
 
-pub gain_spec : {M : Type 1} → statement M
+pub gain_spec : {M : Type 1} → Rattle.counted_block.proofs.share.Share.gain.Statement.statement M
 gain_spec 𝓤 𝓛 𝓜 𝓡 wired S₀ W₀ V₀ K₀ Y₀ T₀ A₀ M₀ _ _ _ _ _ _ _ _ g d h dh dd m dm m' dm' _ _ _ _ _ =
     let H = 𝓛.H in let machine = tables 𝓤 H 𝓜 𝓡 𝓡.env in let S : RattleType = param 0 S₀ in let W : RattleType = param 1 W₀ in let V = param 2 V₀ in let K = param 3 K₀ in
-    let Y = param 4 Y₀ in let R : RattleType = param 5 T₀ in let A = param 6 A₀ in let promise = ended S₀ W₀ V₀ K₀ Y₀ T₀ A₀ M₀ g d h dh dd m dm m' dm' in
-    let claims = clauses S₀ W₀ V₀ K₀ Y₀ T₀ A₀ M₀ g d h dh dd m dm m' dm' 𝓛 𝓜.mem 𝓡.returns in let types : Types eight = (S₀, (W₀, (V₀, (K₀, (Y₀, (T₀, (A₀,
-    (M₀, tt)))))))) in let at_types = bounded eight types (dcons d (dcons dh (dcons dd (dcons dm (dcons dm' dnil))))) in let routine = inst_fn at_types code.function in
+    let Y = param 4 Y₀ in let R : RattleType = param 5 T₀ in let A = param 6 A₀ in let promise = promised.ended S₀ W₀ V₀ K₀ Y₀ T₀ A₀ M₀ g d h dh dd m dm m' dm' in
+    let claims = promised.clauses S₀ W₀ V₀ K₀ Y₀ T₀ A₀ M₀ g d h dh dd m dm m' dm' 𝓛 𝓜.mem 𝓡.returns in let types : Types eight = (S₀, (W₀, (V₀, (K₀, (Y₀, (T₀,
+    (A₀, (M₀, tt)))))))) in let at_types = bounded eight types (dcons d (dcons dh (dcons dd (dcons dm (dcons dm' dnil))))) in let routine = inst_fn at_types code.function in
     let OwnRow : RattleType = share.the_row S W V K Y R A g h in let MaybeRow : RattleType = maybe_share.the_row S W V K Y R A g h in let SeatRow : RattleType = seat.the_row S W V in
     let I = share_kind S W V K Y R A g h in let self = RefOf (0 ∷ []) tt (plain (λ _. OwnRow)) (λ _. tt) in let by_mut = plain (λ _. SeatRow) in let number = plain (λ _. u64) in
     let staying : Stays promise.signature.params promise.kept = (stay_dropped self yes, (stay_ref (1 ∷ []) tt by_mut, (stay_dropped number yes, (stay_dropped number yes, tt)))) in
     proved 𝓛 promise staying claims 𝓜 𝓡 (Goes-dropped 𝓛 10 self yes (λ κs x f. refl), (Goes-ref 𝓛 10 1 tt by_mut, (Goes-dropped 𝓛 10 number yes (λ κs x f. refl), (Goes-dropped
-    𝓛 10 number yes (λ κs x f. refl), tt)))) (#self at_types) routine (code.unfolded 𝓤 H 𝓜 𝓡 wired types d dh dd dm dm') (λ κs. (shr_vals, (mut_vals, (uint_vals w64, (uint_vals w64,
-    tt))))) (λ κs. (shr_Tells (named 0) κs.0 OwnRow, (mut_Tells (named 1) κs.1.0 SeatRow, (uint_Tells w64, (uint_Tells w64, tt))))) (λ κs qs bounds a gh are. let self_block : ℕ =
-    a.0.ref_ptr.0 in let self_offset : ℕ = a.0.ref_ptr.1 in let κ : Lft = κs.0 in let s : OwnRow.Denot = a.0.now in let x : R.Denot = s.value in let k = h.dealloc_token s.heap in
+    𝓛 10 number yes (λ κs x f. refl), tt)))) (promised.Key.name at_types) routine (code.unfolded 𝓤 H 𝓜 𝓡 wired types d dh dd dm dm') (λ κs. (shr_vals, (mut_vals, (uint_vals w64,
+    (uint_vals w64, tt))))) (λ κs. (shr_Tells (named 0) κs.0 OwnRow, (mut_Tells (named 1) κs.1.0 SeatRow, (uint_Tells w64, (uint_Tells w64, tt))))) (λ κs qs bounds a gh are. let self_block :
+    ℕ = a.0.ref_ptr.0 in let self_offset : ℕ = a.0.ref_ptr.1 in let κ : Lft = κs.0 in let s : OwnRow.Denot = a.0.now in let x : R.Denot = s.value in let k = h.dealloc_token s.heap in
     let z : BlockId = s.id in let seat_block : ℕ = a.1.0.ref_ptr.0 in let seat_offset : ℕ = a.1.0.ref_ptr.1 in let t : SeatRow.Denot = a.1.0.now in let id : ℕ = t.id in
     let v : Me (Place S.Denot W.Denot) V.Denot = t.me in let old : ℕ = a.1.1.0 in let new : ℕ = a.1.1.1.0 in let f : ℕ → ℕ = λ n. either (eqb n old) new n in let then : ℕ →
     Me (Place S.Denot W.Denot) V.Denot → Type 0 = m'.then s.key (step 2 0 old new maybe.none) v in let counts = m.counts (step 2 0 old new maybe.none) in

@@ -8,22 +8,20 @@ use Rattle.counted_block.proofs.Names.{lent_self}
 use Rattle.counted_block.specs.contracts.share.Share as share
 use Rattle.counted_block.specs.contracts.seat.Seat as seat
 use Rattle.counted_block.proofs.Entering as entering
-use Rattle.counted_block.specs.contracts.share.Share.split_seat.{ended, clauses}
-use Rattle.counted_block.specs.contracts.share.Share.split_seat.Key.{name as #self}
-use Rattle.counted_block.proofs.share.Share.split_seat.Statement.{statement}
+use Rattle.counted_block.specs.contracts.share.Share.split_seat as promised
 use Rattle.counted_block.proofs.share.Share.split_seat.Code as code
 
-pub split_seat_spec : {M : Type 1} → statement M
+pub split_seat_spec : {M : Type 1} → Rattle.counted_block.proofs.share.Share.split_seat.Statement.statement M
 split_seat_spec 𝓤 𝓛 𝓜 𝓡 wired S₀ W₀ V₀ K₀ Y₀ T₀ A₀ M₀ _ _ _ _ _ _ _ _ g d h dh dd m dm _ _ _ _ =
     let H = 𝓛.H in let machine = tables 𝓤 H 𝓜 𝓡 𝓡.env in let S : RattleType = param 0 S₀ in let W : RattleType = param 1 W₀ in let V = param 2 V₀ in let K = param 3 K₀ in
-    let Y = param 4 Y₀ in let R : RattleType = param 5 T₀ in let A = param 6 A₀ in let promise = ended S₀ W₀ V₀ K₀ Y₀ T₀ A₀ M₀ g d h dh dd m dm in
-    let claims = clauses S₀ W₀ V₀ K₀ Y₀ T₀ A₀ M₀ g d h dh dd m dm 𝓛 𝓜.mem 𝓡.returns in let types : Types eight = (S₀, (W₀, (V₀, (K₀, (Y₀, (T₀, (A₀, (M₀,
-    tt)))))))) in let at_types = bounded eight types (dcons d (dcons dh (dcons dd (dcons dm dnil)))) in let routine = inst_fn at_types code.function in
+    let Y = param 4 Y₀ in let R : RattleType = param 5 T₀ in let A = param 6 A₀ in let promise = promised.ended S₀ W₀ V₀ K₀ Y₀ T₀ A₀ M₀ g d h dh dd m dm in
+    let claims = promised.clauses S₀ W₀ V₀ K₀ Y₀ T₀ A₀ M₀ g d h dh dd m dm 𝓛 𝓜.mem 𝓡.returns in let types : Types eight = (S₀, (W₀, (V₀, (K₀, (Y₀, (T₀, (A₀,
+    (M₀, tt)))))))) in let at_types = bounded eight types (dcons d (dcons dh (dcons dd (dcons dm dnil)))) in let routine = inst_fn at_types code.function in
     let OwnRow : RattleType = share.the_row S W V K Y R A g h in let SeatRow : RattleType = seat.the_row S W V in let I = share_kind S W V K Y R A g h in let self = RefOf (0 ∷
     []) tt (plain (λ _. OwnRow)) (λ _. tt) in let by_mut = plain (λ _. SeatRow) in let staying : Stays promise.signature.params promise.kept = (stay_dropped self yes, (stay_ref (1 ∷
-    []) tt by_mut, tt)) in proved 𝓛 promise staying claims 𝓜 𝓡 (Goes-dropped 𝓛 10 self yes (λ κs x f. refl), (Goes-ref 𝓛 10 1 tt by_mut, tt)) (#self at_types) routine (code.unfolded
-    𝓤 H 𝓜 𝓡 wired types d dh dd dm) (λ κs. (shr_vals, (mut_vals, tt))) (λ κs. (shr_Tells (named 0) κs.0 OwnRow, (mut_Tells (named 1) κs.1.0 SeatRow, tt))) (λ κs qs bounds a gh are.
-    let self_block : ℕ = a.0.ref_ptr.0 in let self_offset : ℕ = a.0.ref_ptr.1 in let κ : Lft = κs.0 in let s : OwnRow.Denot = a.0.now in let x : R.Denot = s.value in
+    []) tt by_mut, tt)) in proved 𝓛 promise staying claims 𝓜 𝓡 (Goes-dropped 𝓛 10 self yes (λ κs x f. refl), (Goes-ref 𝓛 10 1 tt by_mut, tt)) (promised.Key.name at_types) routine
+    (code.unfolded 𝓤 H 𝓜 𝓡 wired types d dh dd dm) (λ κs. (shr_vals, (mut_vals, tt))) (λ κs. (shr_Tells (named 0) κs.0 OwnRow, (mut_Tells (named 1) κs.1.0 SeatRow, tt))) (λ κs qs
+    bounds a gh are. let self_block : ℕ = a.0.ref_ptr.0 in let self_offset : ℕ = a.0.ref_ptr.1 in let κ : Lft = κs.0 in let s : OwnRow.Denot = a.0.now in let x : R.Denot = s.value in
     let k = h.dealloc_token s.heap in let z : BlockId = s.id in let seat_block : ℕ = a.1.0.ref_ptr.0 in let seat_offset : ℕ = a.1.0.ref_ptr.1 in let t : SeatRow.Denot = a.1.0.now in
     let id : ℕ = t.id in let v : Me (Place S.Denot W.Denot) V.Denot = t.me in let Beside : Fml = tokens 8 κs.1.1 qs.1.1 in let holds = g.holds s.key in let P : Fml = content S W R k z x in
     let J : Fml = block S W V.coded.code holds g.out P z in let start : (walk_of 𝓛 promise staying claims).Ghost = ((κs, qs, bounds, a, (vptr self_block self_offset ∷
