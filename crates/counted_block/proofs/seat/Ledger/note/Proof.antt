@@ -8,7 +8,7 @@ use Rattle.counted_block.proofs.Names.{ledger_lent}
 use mathlib.Core.Option as maybe
 use Rattle.counted_block.specs.contracts.seat.Seat as seat
 use Rattle.counted_block.specs.contracts.seat.Ledger as ledger
-use Rattle.counted_block.proofs.Entering as entering
+use Rattle.counted_block.proofs.Moving as moving
 use Rattle.counted_block.specs.contracts.seat.Ledger.note as promised
 use Rattle.counted_block.proofs.seat.Ledger.note.Code as code
 
@@ -35,9 +35,9 @@ note_spec 𝓤 𝓛 𝓜 𝓡 wired S₀ W₀ V₀ K₀ Y₀ T₀ A₀ M₀ _ _ 
     use1 𝓛 (‵ (hidden_shr D κ (tt, tt) self_block self_offset) ⊛ ‵ (fhide (kept_of S W R V.coded.code holds g.out k z x))) (ledger_lent S W V K Y R A g h 𝓛 κ s self_block self_offset)
     $ split ! $ move ! (1 ∷ []) $ unhide ! $ use1 𝓛 (‵ (finv J)) (kept_inv S W V.coded.code holds g.out P z 𝓛) $ move ! (1 ∷ []) $ drop ! $
     -- [the invariant; the token; the seat, in two; its token; the others]
-    let New : ℕ × V.Denot → Fml = entering.noted 𝓛 S W V.coded holds g.out P z id v then allows in move ! (2 ∷ 3 ∷ 4 ∷ []) $ opens ! tt SeatRow seat_block seat_offset (λ bits. move !
+    let New : ℕ × V.Denot → Fml = moving.noted 𝓛 S W V.coded holds g.out P z id v then allows in move ! (2 ∷ 3 ∷ 4 ∷ []) $ opens ! tt SeatRow seat_block seat_offset (λ bits. move !
     (1 ∷ []) $ fsplit ! $ rewrite ! 1 (λ (w : BlockId). ‵ (seat_owns S W w V.coded.code id v)) same refl $ move ! (6 ∷ 1 ∷ []) $ use2 𝓛 (later (‵ (fex (ℕ × V.Denot) New)))
-    (entering.notes 𝓛 S W V.coded holds g.out P z id v then allows) $ await ! tt $ fpick ! (λ u. fsplit ! $ fpick ! (λ so. drop ! $ let t' : SeatRow.Denot = record { marker = t.marker; block =
+    (moving.notes 𝓛 S W V.coded holds g.out P z id v then allows) $ await ! tt $ fpick ! (λ u. fsplit ! $ fpick ! (λ so. drop ! $ let t' : SeatRow.Denot = record { marker = t.marker; block =
     z; id = id; me = (u.1, v.1) } in let Told : Type 0 = (z ≡ t.block) × (id ≡ id) × ((n : ℕ) × then n (u.1, v.1)) in
     -- [the seat; its fields, its cell and three more; the token; the others]
     move ! (1 ∷ 0 ∷ []) $ fjoin ! $ move ! (1 ∷ 0 ∷ 2 ∷ 3 ∷ 4 ∷ []) $ closes ! tt SeatRow t' bits seat_block seat_offset $ feq_i ! (List Val) (vptr seat_block seat_offset ∷

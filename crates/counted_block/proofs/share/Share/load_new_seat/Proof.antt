@@ -9,7 +9,7 @@ use Rattle.counted_block.proofs.Names.{Types, eight, MarkerData, marker_made, ha
 use mathlib.Core.Option as maybe
 use Rattle.counted_block.specs.contracts.share.Share as share
 use Rattle.counted_block.specs.contracts.seat.Seat as seat
-use Rattle.counted_block.proofs.Entering as entering
+use Rattle.counted_block.proofs.Moving as moving
 use Rattle.counted_block.specs.contracts.share.Share.load_new_seat as promised
 use Rattle.counted_block.proofs.share.Share.load_new_seat.Code as code
 
@@ -35,8 +35,8 @@ load_new_seat_spec 𝓤 𝓛 𝓜 𝓡 wired S₀ W₀ V₀ K₀ Y₀ T₀ A₀ 
     opens_self S W V K Y R A g h I ! tt (place z) self_block self_offset (λ q. first ! $ blocks ! $ sets ! (addr ! (through ! refl (fld ! refl (hop ! (look_in ! 0 (sub ! 0 refl (whole !))) (fld !
     refl (stop !)))))) refl (tt, tt) $ closes_self S W V K Y R A g h I ! tt q (place z) self_block self_offset $
     -- [the token; the fields; the grips, lent; the invariant; the others]
-    move ! (2 ∷ 0 ∷ []) $ shr_bor-open ! tt (halve 𝓛 z.grips of_shares) (λ r. let out : ℕ → Fml = entering.entered 𝓛 S W V.coded holds g.out P z r then asked in move ! (3 ∷ 1 ∷
-    []) $ use2 𝓛 (raw (machine.C _ (vptr pb e ∷ seq_cst ∷ []) (λ u. mean 𝓛 (found out u)))) (via 𝓤 _ (entering.enters 𝓛 S W V.coded holds g.out P z r then asked) (loads 𝓛 𝓜
+    move ! (2 ∷ 0 ∷ []) $ shr_bor-open ! tt (halve 𝓛 z.grips of_shares) (λ r. let out : ℕ → Fml = moving.seated_after 𝓛 S W V.coded holds g.out P z r then asked in move ! (3 ∷ 1 ∷
+    []) $ use2 𝓛 (raw (machine.C _ (vptr pb e ∷ seq_cst ∷ []) (λ u. mean 𝓛 (found out u)))) (via 𝓤 _ (moving.enters 𝓛 S W V.coded holds g.out P z r then asked) (loads 𝓛 𝓜
     𝓡 (code.calls-std::sync::atomic::raw::load 𝓡.env wired) (block_ptr pb e) out)) $ sets ! (agg ! (and_then ! (lit ! tt) (no_more !))) refl (tt, (record { fits = lit< tt }, tt)) $
     Calls-last ! (fm 𝓛 𝓜 𝓡) (found out) (and_then ! (get ! refl) (and_then ! (get ! refl) (no_more !))) (λ u. finds ! out (λ n fits. lands_last ! refl (tt, record { fits = fits }) $
     exec ! machine.C machine.Λ here (after 1 routine.body) (at_ret here returned) $ sets ! (of_opd ! (get ! refl)) refl (tt, record { fits = fits }) $ sets ! (agg ! (no_more !)) refl (tt, tt) $

@@ -7,7 +7,7 @@ use Rattle.counted_block.proofs.Names.{Stays, stay_dropped, walk_of, Goes-droppe
 use Rattle.counted_block.proofs.Names.{halve, of_shares, gripped, share_kind, lent_self, opens_self, closes_self, place}
 use Rattle.counted_block.specs.contracts.share.Share as share
 use Rattle.counted_block.specs.contracts.seat.Seat as seat
-use Rattle.counted_block.proofs.Entering as entering
+use Rattle.counted_block.proofs.Moving as moving
 use Rattle.counted_block.specs.contracts.share.Share.peek as promised
 use Rattle.counted_block.proofs.share.Share.peek.Code as code
 
@@ -32,7 +32,7 @@ peek_spec 𝓤 𝓛 𝓜 𝓡 wired S₀ W₀ V₀ K₀ Y₀ T₀ A₀ _ _ _ _ _
     refl (stop !)))))) refl (tt, tt) $ closes_self S W V K Y R A g h I ! tt q (place z) self_block self_offset $
     -- [the token; the fields; the grips, lent; the invariant; the others]
     move ! (2 ∷ 0 ∷ []) $ shr_bor-open ! tt (halve 𝓛 z.grips of_shares) (λ r. let out : ℕ → Fml = λ _. gripped z.grips of_shares r in move ! (3 ∷ 1 ∷ []) $
-    use2 𝓛 (raw (machine.C _ (vptr pb e ∷ seq_cst ∷ []) (λ u. mean 𝓛 (found out u)))) (via 𝓤 _ (entering.glances 𝓛 S W V.coded holds g.out P z r) (loads 𝓛 𝓜 𝓡
+    use2 𝓛 (raw (machine.C _ (vptr pb e ∷ seq_cst ∷ []) (λ u. mean 𝓛 (found out u)))) (via 𝓤 _ (moving.glances 𝓛 S W V.coded holds g.out P z r) (loads 𝓛 𝓜 𝓡
     (code.calls-std::sync::atomic::raw::load 𝓡.env wired) (block_ptr pb e) out)) $ sets ! (agg ! (and_then ! (lit ! tt) (no_more !))) refl (tt, (record { fits = lit< tt }, tt)) $
     Calls-last ! (fm 𝓛 𝓜 𝓡) (found out) (and_then ! (get ! refl) (and_then ! (get ! refl) (no_more !))) (λ u. finds ! out (λ n fits. lands_last ! refl (tt, record { fits = fits }) $
     exec ! machine.C machine.Λ here (after 1 routine.body) (at_ret here returned) $ sets ! (of_opd ! (get ! refl)) refl (tt, record { fits = fits }) $ move ! (1 ∷ 0 ∷ []) $ obor_close ! tt $

@@ -7,7 +7,7 @@ use Rattle.counted_block.proofs.Names.{Goes-ref, proved, leaves, Splits, Place, 
 use Rattle.counted_block.proofs.Names.{lent_self}
 use Rattle.counted_block.specs.contracts.share.Share as share
 use Rattle.counted_block.specs.contracts.seat.Seat as seat
-use Rattle.counted_block.proofs.Entering as entering
+use Rattle.counted_block.proofs.Moving as moving
 use Rattle.counted_block.specs.contracts.share.Share.split_seat as promised
 use Rattle.counted_block.proofs.share.Share.split_seat.Code as code
 
@@ -33,8 +33,8 @@ split_seat_spec 𝓤 𝓛 𝓜 𝓡 wired S₀ W₀ V₀ K₀ Y₀ T₀ A₀ M�
     self_offset ∷ vptr seat_block seat_offset ∷ []) returned $ alloc_all ! (λ l. pass_all ! refl ((tt, tt), ((tt, tt), tt)) $ lent_self S W V K Y R A g h I ! s self_block self_offset $
     fsplit ! $ drop ! $ fsplit ! $ use1 𝓛 (‵ (finv J)) (kept_inv S W V.coded.code holds g.out P z 𝓛) $ move ! (1 ∷ []) $ drop ! $ move ! (1 ∷ []) $ drop ! $
     -- [the invariant; the token; the seat, in two; its token; the others]
-    let Two : ℕ → Fml = entering.both 𝓛 S W V.coded holds g.out P z id v lv rv allows in move ! (2 ∷ 3 ∷ 4 ∷ []) $ opens ! tt SeatRow seat_block seat_offset (λ bits. move ! (1 ∷
-    []) $ fsplit ! $ rewrite ! 1 (λ (w : BlockId). ‵ (seat_owns S W w V.coded.code id v)) same refl $ move ! (6 ∷ 1 ∷ []) $ use2 𝓛 (later (‵ (fex ℕ Two))) (entering.splits 𝓛 S W
+    let Two : ℕ → Fml = moving.both 𝓛 S W V.coded holds g.out P z id v lv rv allows in move ! (2 ∷ 3 ∷ 4 ∷ []) $ opens ! tt SeatRow seat_block seat_offset (λ bits. move ! (1 ∷
+    []) $ fsplit ! $ rewrite ! 1 (λ (w : BlockId). ‵ (seat_owns S W w V.coded.code id v)) same refl $ move ! (6 ∷ 1 ∷ []) $ use2 𝓛 (later (‵ (fex ℕ Two))) (moving.splits 𝓛 S W
     V.coded holds g.out P z id v lv rv allows) $ await ! tt $ fpick ! (λ j. fsplit ! $ let t' : SeatRow.Denot = record { marker = t.marker; block = z; id = id; me = (lv, v.1) } in
     let n : SeatRow.Denot = record { marker = record {}; block = z; id = j; me = (rv, []) } in let Told : Type 0 = (z ≡ t.block) × (id ≡ id) × (t'.me ≡ t'.me) × (z ≡ t.block) × (n.me ≡
     n.me) in
