@@ -1,19 +1,20 @@
 -- The machine values of the structs: a pointer and a marker, or a marker alone. Assumes `Logic`.
-use Rattle.std.proofs.Common.{◌≡◌, ℕ, T, List, [], ◌∷◌, ◌++◌, refl, ap, ◌∙◌, sym, subst}
+use Rattle.std.proofs.Common.{◌<◌, ◌^◌, w64, ◌≡◌, ℕ, T, List, [], ◌∷◌, ◌++◌, refl, ap, ◌∙◌, sym, subst}
 use seplogic.Ra.Ura.{Ura}
 use mir.Syntax.{Sym, ty_ptr, ty_struct, tcons, tnil}
-use mir.Val.{Val, vstruct, vcons, vnil, of_list, has_ty, WT}
+use mir.Val.{Val, vint, vstruct, vcons, vnil, of_list, has_ty, WT}
 use base.Logic.{ent, sep, emp, id⊢}
-use base.Fml.{Lft, Fml, Share, fsep, fhide, flft}
+use base.Fml.{Lft, Fml, Share, ftrue, feq, fex, fsep, fhide, flft}
 use base.Stored.{Coded}
 use types.Logic.{Logic, sem}
-use types.Kit.{‵, ◌⊛◌, ◌$◌, Goal, Item, Soaks, Seq, Step, step, move, drop, split, fsplit, fpick, rewrite, use1}
+use types.Kit.{‵, ◌⊛◌, ◌$◌, Goal, Item, Soaks, Seq, Step, step, move, drop, split, fsplit, fjoin, fjoin3, fpick, fpack, feq_i, flt_i, rewrite, use0, use1}
 use denote.Exit.{hidden, under}
-use denote.RattleType.{RattleType}
+use denote.Builtin.{u64}
+use denote.RattleType.{RattleType, Valss, owns}
 use denote.Sharing.{beside}
 use denote.Laws.{Is, shows}
 use denote.Opens.{Opens, Shut, unhide}
-use denote.Steps.{looks, peeks, shuts}
+use denote.Steps.{nothing, looks, peeks, shuts}
 use denote.Copied.{Struct-Copied}
 use denote.Memory.{cell_at, hidden_shr, part_at}
 use denote.RawPtr.{RawPtr, Ptr, InBlock, block_ptr, null_ptr, ptr_val}
@@ -75,6 +76,21 @@ module _ {M : Type 1} {𝓤 : Ura M} (𝓛 : Logic 𝓤) where
 
   pub marker_made : ent 𝓤 (emp 𝓤) (sem 𝓛 (MarkerData.own_val (tt, tt) (marker_val ∷ [])))
   marker_made = makes_shadow 𝓛 (MarkerData.own_val (tt, tt) (marker_val ∷ [])) (λ vss. (tt, ((λ uss. (tt, tt)), tt))) ((nil_val ∷ [], tt), (refl, ((tt, (refl, tt)), tt)))
+
+module _ {M : Type 1} {𝓤 : Ura M} {𝓛 : Logic 𝓤} {C : Type 0} {Γ : List (Item 𝓤)} {G : Goal 𝓤 𝓛.H} where
+  -- what an owner has lies at its block, and its pointer and marker come to it
+  pub located : C → (p : Ptr) (z : BlockId) → p ≡ place z → {F : Fml}
+      → Step C 𝓛 (‵ (fsep (PairData.own_val (p, (tt, tt)) (ptr_and_marker p ∷ [])) (fsep (fex (p ≡ place z) (λ _. ftrue)) F)) ∷ Γ) G (‵ F ∷ Γ) G
+  located t p z at = step (λ s. nothing t $ fpack t (p ≡ place z) (λ _. ftrue) at $ fjoin t $ use0 𝓛 (‵ (PairData.own_val (p, (tt, tt)) (ptr_and_marker p ∷ []))) (pair_made 𝓛 p) $ fjoin t $ s)
+
+  -- a number that was found, beside what a step left
+  pub numbered : C → (X : RattleType) (x : X.Denot) (v : Val) (n : ℕ) → n < 2 ^ 64 → let u : Val = vstruct (vcons (vint w64 n) (vcons v vnil)) in Step C 𝓛
+      (‵ (fex (Valss (u64 ∷ X ∷ [])) (λ uss. fsep (feq (List Val) (u ∷ []) (vstruct (of_list (uss.0 ++ (uss.1.0 ++ []))) ∷ [])) (owns (u64 ∷ X ∷ []) (n, (x, tt)) uss))) ∷ Γ) G
+      (‵ (X.own_val x (v ∷ [])) ∷ Γ) G
+  numbered t X x v n fits = let u : Val = vstruct (vcons (vint w64 n) (vcons v vnil)) in step (λ s. nothing t $ flt_i t n (2 ^ 64) fits $
+      feq_i t (List Val) (vint w64 n ∷ []) (vint w64 n ∷ []) refl $ fjoin t $ move t (0 ∷ 2 ∷ 1 ∷ []) $ fjoin3 t $ feq_i t (List Val) (u ∷ []) (u ∷ []) refl $ fjoin t $
+      fpack t (Valss (u64 ∷ X ∷ [])) (λ uss. fsep (feq (List Val) (u ∷ []) (vstruct (of_list (uss.0 ++ (uss.1.0 ++ []))) ∷ [])) (owns (u64 ∷ X ∷ []) (n, (x, tt)) uss))
+      (vint w64 n ∷ [], (v ∷ [], tt)) $ s)
 
 -- what a share, a hold and the last share differ in: the name, the values, each with what a share has of it, and the grip
 pub record Kind (S W V K Y T' A : RattleType) : Type 1 where

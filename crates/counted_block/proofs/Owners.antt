@@ -1,14 +1,14 @@
 -- What a share, a hold and the last share do alike, by a reference to one, whose kind says which it is; and a fetch by a share. Assumes `Logic`.
 use Rattle.counted_block.proofs.Names.{◌≡◌, ℕ, ◌+◌, List, [], ◌∷◌, sym, refl, named, Val, vptr, SProp, ent, emp, Lft, Fml, ftrue, flft, ‵, raw, ◌⊛◌, at_ret, ◌$◌}
-use Rattle.counted_block.proofs.Names.{◌∵◌, !, qed, by, move, keep, drop, split, join, fsplit, fjoin, fjoin3, fpack, use0, use1, rewrite, feq_i, stop, hop, fld, addr, load, of_opd, first}
-use Rattle.counted_block.proofs.Names.{blocks, exec, no_more, and_then, agg, returns, enter, alloc_all, pass_all, free_all, look_at, get, through, sets, env, sub, whole, look_in, tables, yes}
-use Rattle.counted_block.proofs.Names.{RattleType, Ptr, owns, types_at, plain, nothing, param, RefOf, RefMutOf, shr_vals, shr_Tells, Stays, stay_dropped, lone, walk_of, Goes-dropped, after, proved}
-use Rattle.counted_block.proofs.Names.{leaves, sets_last, hide, param_laws, ◌+ₚ◌, lent_at, lent_at_shr_laws, at_value, BlockId, place, content, looked_at, tokens, Kind, Data, owner_row}
-use Rattle.counted_block.proofs.Names.{owner_sees, ptr_and_marker, false, PairData, pair_made, subst, apply∗, all, all_e, sem, split3, fsplit3, use2, no, opens, closes, stay_ref, Goes-ref}
-use Rattle.counted_block.proofs.Names.{shr_bor-open, obor_close, tokens_halve, assigns, look_raw, store_raw, tail, El, lawful, Good, one, opens_one, proved_at, Me, rest, Second, Place, at_second}
-use Rattle.counted_block.proofs.Names.{life, tracked, seat_owns, holding, Swapped, sep, lent_self, opens_self, closes_self, ◌^◌, lit<, w64, vint, finv, mean, fpick, use3, via, flt_i, lit}
-use Rattle.counted_block.proofs.Names.{Calls-last, lands_last, block_ptr, mut_vals, mut_Tells, fm, seq_cst, found, finds, u64, uint_vals, uint_Tells, step, Allows, block, Same, kept_inv, ptr_val}
-use Rattle.counted_block.proofs.Names.{halve, of_shares, share_kind, ◌++◌, Share, fsep, fex, gripped}
+use Rattle.counted_block.proofs.Names.{◌∵◌, !, qed, by, move, keep, drop, split, join, fsplit, fjoin, fjoin3, use0, use1, rewrite, feq_i, stop, hop, fld, addr, load, of_opd, first, blocks}
+use Rattle.counted_block.proofs.Names.{exec, no_more, and_then, agg, returns, enter, alloc_all, pass_all, free_all, look_at, get, through, sets, env, sub, whole, look_in, tables, yes, RattleType}
+use Rattle.counted_block.proofs.Names.{Ptr, owns, types_at, plain, nothing, param, RefOf, RefMutOf, shr_vals, shr_Tells, Stays, stay_dropped, lone, walk_of, Goes-dropped, after, proved, leaves}
+use Rattle.counted_block.proofs.Names.{sets_last, hide, param_laws, ◌+ₚ◌, lent_at, lent_at_shr_laws, at_value, BlockId, place, content, looked_at, tokens, Kind, Data, owner_row, owner_sees}
+use Rattle.counted_block.proofs.Names.{ptr_and_marker, false, subst, apply∗, all, all_e, sem, split3, fsplit3, use2, no, opens, closes, stay_ref, Goes-ref, shr_bor-open, obor_close, tokens_halve}
+use Rattle.counted_block.proofs.Names.{assigns, look_raw, store_raw, tail, El, lawful, Good, one, opens_one, proved_at, Me, rest, Second, Place, at_second, life, tracked, seat_owns, holding}
+use Rattle.counted_block.proofs.Names.{Swapped, sep, lent_self, opens_self, closes_self, ◌^◌, lit<, w64, vint, finv, mean, fpick, use3, via, flt_i, lit, Calls-last, lands_last, block_ptr}
+use Rattle.counted_block.proofs.Names.{mut_vals, mut_Tells, fm, seq_cst, found, finds, u64, uint_vals, uint_Tells, step, Allows, block, Same, kept_inv, ptr_val, halve, of_shares, share_kind}
+use Rattle.counted_block.proofs.Names.{◌++◌, Share, fsep, fex, gripped, located}
 use seplogic.Ra.Ura.{Ura}
 use types.Logic.{Logic}
 use denote.Memory.{pointee}
@@ -104,9 +104,9 @@ module _ {M : Type 1} {𝓤 : Ura M} (𝓛 : Logic 𝓤) (𝓜 : Model 𝓤 𝓛
       value LT claims one self_name closed told =
           let S = param 0 S₀ in let V = param 2 V₀ in let K = param 3 K₀ in let Y = param 4 Y₀ in let A = param 6 A₀ in let routine = value_routine one in let self = RefOf (0 ∷
           []) tt (plain (λ _. OwnRow)) (λ _. tt) in let staying : Stays value_promise.signature.params value_promise.kept = (stay_dropped self yes, tt) in
-          proved 𝓛 value_promise staying claims 𝓜 𝓡 (Goes-dropped 𝓛 8 self yes (λ κs x f. refl), tt) self_name routine closed (λ κs. (shr_vals, tt)) (λ κs. (shr_Tells (named 0)
-          κs.0 OwnRow, tt)) (λ κs qs bounds a gh are. let self_block : ℕ = a.0.ref_ptr.0 in let self_offset : ℕ = a.0.ref_ptr.1 in let κ : Lft = κs.0 in let s = kind.see a.0.now in
-          let x : R.Denot = s.value in let k = h.dealloc_token s.heap in let z : BlockId = s.id in let pb : ℕ = z.block in let e : ℕ = z.offset + at_value S W R in
+          proved 𝓛 value_promise staying claims 𝓜 𝓡 (Goes-dropped 𝓛 8 self yes (λ κs x f. refl), tt) self_name routine closed (λ κs. (shr_vals, tt)) (λ κs.
+          (shr_Tells (named 0) κs.0 OwnRow, tt)) (λ κs qs bounds a gh are. let self_block : ℕ = a.0.ref_ptr.0 in let self_offset : ℕ = a.0.ref_ptr.1 in let κ : Lft = κs.0 in
+          let s = kind.see a.0.now in let x : R.Denot = s.value in let k = h.dealloc_token s.heap in let z : BlockId = s.id in let pb : ℕ = z.block in let e : ℕ = z.offset + at_value S W R in
           let Beside : Fml = tokens 7 κs.1 qs.1 in let start : (walk_of 𝓛 value_promise staying claims).Ghost = ((κs, qs, bounds, a, (vptr self_block self_offset ∷ [], tt)), gh) in
           let returned : Val → SProp 𝓤 = (walk_of 𝓛 value_promise staying claims).post start in qed 𝓛 (((‵ (flft κ qs.0) ⊛ ‵ Beside) ⊛
           ‵ (owns (types_at value_promise.signature.params κs) a start.0.4)) ∷ raw ((claims κs a).requires gh) ∷ []) ∵ keep ! (0 ∷ []) $ split ! $ split ! $ move ! (2 ∷ []) $
@@ -150,20 +150,19 @@ module _ {M : Type 1} {𝓤 : Ura M} (𝓛 : Logic 𝓤) (𝓜 : Model 𝓤 𝓛
       gone claims one self_name closed told =
           let S = param 0 S₀ in let V = param 2 V₀ in let K = param 3 K₀ in let Y = param 4 Y₀ in let A = param 6 A₀ in let routine = gone_routine one in let self = RefOf (0 ∷
           []) tt (plain (λ _. OwnRow)) (λ _. tt) in let staying : Stays gone_promise.signature.params gone_promise.kept = (stay_dropped self yes, tt) in
-          proved 𝓛 gone_promise staying claims 𝓜 𝓡 (Goes-dropped 𝓛 8 self yes (λ κs x f. refl), tt) self_name routine closed (λ κs. (shr_vals, tt)) (λ κs. (shr_Tells (named 0)
-          κs.0 OwnRow, tt)) (λ κs qs bounds a gh are. let self_block : ℕ = a.0.ref_ptr.0 in let self_offset : ℕ = a.0.ref_ptr.1 in let κ : Lft = κs.0 in let s = kind.see a.0.now in
-          let z : BlockId = s.id in let Beside : Fml = tokens 7 κs.1 qs.1 in let start : (walk_of 𝓛 gone_promise staying claims).Ghost = ((κs, qs, bounds, a, (vptr self_block self_offset ∷
-          [], tt)), gh) in let returned : Val → SProp 𝓤 = (walk_of 𝓛 gone_promise staying claims).post start in qed 𝓛 (((‵ (flft κ qs.0) ⊛ ‵ Beside) ⊛
-          ‵ (owns (types_at gone_promise.signature.params κs) a start.0.4)) ∷ raw ((claims κs a).requires gh) ∷ []) ∵ keep ! (0 ∷ []) $ split ! $ split ! $ move ! (2 ∷ []) $ fsplit ! $
-          fsplit ! $ keep ! (1 ∷ 3 ∷ 4 ∷ []) $ enter ! machine.C machine.Λ routine (vptr self_block self_offset ∷ []) returned $ alloc_all ! (λ l. pass_all ! refl ((tt, tt), tt) $
-          lent_self S W V K Y R A g h kind ! a.0.now self_block self_offset $ fsplit ! $ drop ! $ fsplit ! $
+          proved 𝓛 gone_promise staying claims 𝓜 𝓡 (Goes-dropped 𝓛 8 self yes (λ κs x f. refl), tt) self_name routine closed (λ κs. (shr_vals, tt)) (λ κs.
+          (shr_Tells (named 0) κs.0 OwnRow, tt)) (λ κs qs bounds a gh are. let self_block : ℕ = a.0.ref_ptr.0 in let self_offset : ℕ = a.0.ref_ptr.1 in let κ : Lft = κs.0 in
+          let s = kind.see a.0.now in let z : BlockId = s.id in let Beside : Fml = tokens 7 κs.1 qs.1 in let start : (walk_of 𝓛 gone_promise staying claims).Ghost =
+          ((κs, qs, bounds, a, (vptr self_block self_offset ∷ [], tt)), gh) in let returned : Val → SProp 𝓤 = (walk_of 𝓛 gone_promise staying claims).post start in
+          qed 𝓛 (((‵ (flft κ qs.0) ⊛ ‵ Beside) ⊛ ‵ (owns (types_at gone_promise.signature.params κs) a start.0.4)) ∷ raw ((claims κs a).requires gh) ∷ []) ∵ keep ! (0 ∷ []) $
+          split ! $ split ! $ move ! (2 ∷ []) $ fsplit ! $ fsplit ! $ keep ! (1 ∷ 3 ∷ 4 ∷ []) $ enter ! machine.C machine.Λ routine (vptr self_block self_offset ∷ []) returned $
+          alloc_all ! (λ l. pass_all ! refl ((tt, tt), tt) $ lent_self S W V K Y R A g h kind ! a.0.now self_block self_offset $ fsplit ! $ drop ! $ fsplit ! $
           -- [what is kept; the value; the fields; the token; the others]
           move ! (2 ∷ 3 ∷ []) $ opens_self S W V K Y R A g h kind ! tt (place z) self_block self_offset (λ q. sets ! (of_opd ! (load ! (through ! refl (fld ! refl (stop !))) (look_in ! 0 (sub !
           0 refl (whole !))))) refl (tt, tt) $ closes_self S W V K Y R A g h kind ! tt q (place z) self_block self_offset $ sets ! (agg ! (no_more !)) refl (tt, tt) $
           sets ! (agg ! (and_then ! (get ! refl) (and_then ! (get ! refl) (no_more !)))) refl (tt, (tt, (tt, tt))) $
           -- [the token; the fields; what is kept; the value; the others]
-          nothing ! $ move ! (0 ∷ 3 ∷ 4 ∷ []) $ fjoin3 ! $ nothing ! $ fpack ! (place z ≡ place z) (λ _. ftrue) refl $ fjoin ! $ use0 𝓛 (‵ (PairData.own_val (place z, (tt, tt))
-          (ptr_and_marker (place z) ∷ []))) (pair_made 𝓛 (place z)) $ fjoin ! $
+          nothing ! $ move ! (0 ∷ 3 ∷ 4 ∷ []) $ fjoin3 ! $ located ! (place z) z refl $
           -- [the result; the token; the fields; the others]
           move ! (1 ∷ 3 ∷ []) $ join ! $ nothing ! $ nothing ! $ fjoin ! $ let mh : MaybeRow.Denot = none_of a.0.now (place z) in use0 𝓛 (raw ((claims κs a).ensures gh mh (at_exit
           gone_promise κs a (tt, tt)))) (told κs a gh (place z)) $ returns ! (look_at ! 0 refl) $ free_all ! refl $ keep ! (2 ∷ 1 ∷ 3 ∷ 0 ∷ []) $
@@ -208,26 +207,27 @@ module _ {M : Type 1} {𝓤 : Ura M} (𝓛 : Logic 𝓤) (𝓜 : Model 𝓤 𝓛
         swap_second LW one_fn self_name closed asked told =
             let H = 𝓛.H in let S : RattleType = param 0 S₀ in let V = param 2 V₀ in let K = param 3 K₀ in let Y = param 4 Y₀ in let A = param 6 A₀ in let n : ℕ = 1 in
             let E : El = record { row = W₀; laws = LW } in let routine = swap_routine one_fn in let self = RefOf (0 ∷ []) tt (plain (λ _. OwnRow)) (λ _. tt) in
-            let by_mut = plain (λ _. SeatRow) in let staying : Stays swap_promise.signature.params swap_promise.kept = (stay_dropped self yes, (stay_ref (1 ∷
-            []) tt by_mut, (stay_dropped (plain (λ _. W)) no, tt))) in proved_at 𝓛 swap_promise staying claims 𝓜 𝓡 (Goes-dropped 𝓛 9 self yes (λ κs x f. refl), (Goes-ref 𝓛 9 1 tt
-            by_mut, (Goes-dropped 𝓛 9 (plain (λ _. W)) no (λ κs x f. refl), tt))) self_name routine closed (λ y₀ are. let κs = y₀.0.0 in let qs = y₀.0.1 in let a = y₀.0.3 in
-            let self_block : ℕ = a.0.ref_ptr.0 in let self_offset : ℕ = a.0.ref_ptr.1 in let κ : Lft = κs.0 in let s = kind.see a.0.now in let x : R.Denot = s.value in
-            let k = h.dealloc_token s.heap in let z : BlockId = s.id in let α : Lft = life z in let seat_block : ℕ = a.1.0.ref_ptr.0 in let seat_offset : ℕ = a.1.0.ref_ptr.1 in
-            let t : SeatRow.Denot = a.1.0.now in let id : ℕ = t.id in let v : At = t.me in let new : W.Denot = a.1.1.0 in let more : List (ℕ × Place S.Denot W.Denot) = rest v.1 in
-            let pb : ℕ = z.block in let e : ℕ = z.offset + at_second S W in let got = one E y₀.0.4.1.1.0 ((lawful E 𝓛).typed new y₀.0.4.1.1.0 are.1.1.0) in let vy : Val = got.0 in
-            let fy : Good E vy = got.2 in let Of : List Val × (List Val × (List Val × Unit {0})) → (walk_of 𝓛 swap_promise staying claims).Ghost = λ vss. ((κs, qs, y₀.0.2, a, vss),
-            y₀.1) in let start : (walk_of 𝓛 swap_promise staying claims).Ghost = Of (vptr self_block self_offset ∷ [], (vptr seat_block seat_offset ∷ [], (vy ∷ [], tt))) in
-            let returned : Val → SProp 𝓤 = (walk_of 𝓛 swap_promise staying claims).post start in let Beside : Fml = tokens 7 κs.1.1 qs.1.1 in
-            subst (λ (vss : List Val × (List Val × (List Val × Unit {0}))). ent 𝓤 ((walk_of 𝓛 swap_promise staying claims).pre (Of vss)) (WpFn 𝓤 H machine.C machine.Λ routine ((walk_of
-            𝓛 swap_promise staying claims).args (Of vss)) ((walk_of 𝓛 swap_promise staying claims).post (Of vss)))) (λ i. (sym are.0.0 i, (sym are.1.0.0 i, (sym got.1 i, tt)))) (asked κs a
-            y₀.1 (on_entry 𝓛 swap_promise.signature κs qs a start.0.4) (WpFn 𝓤 H machine.C machine.Λ routine (vptr self_block self_offset ∷ vptr seat_block seat_offset ∷ vy ∷
-            []) returned) (λ same taken. let old : W.Denot = taken.0 in qed 𝓛 (((‵ (flft κs.0 qs.0) ⊛ ‵ (flft κs.1.0 qs.1.0) ⊛ ‵ Beside) ⊛
-            ‵ (owns (types_at swap_promise.signature.params κs) a start.0.4)) ∷ []) ∵ split ! $ split3 ! $ move ! (3 ∷ []) $ fsplit ! $ fsplit ! $ move ! (2 ∷ []) $ fsplit ! $ fsplit3 ! $
-            move ! (3 ∷ []) $ fsplit ! $ keep ! (6 ∷ 7 ∷ 3 ∷ 4 ∷ 8 ∷ 9 ∷ 0 ∷ []) $ enter ! machine.C machine.Λ routine (vptr self_block self_offset ∷
-            vptr seat_block seat_offset ∷ vy ∷ []) returned $ alloc_all ! (λ l. pass_all ! refl ((tt, tt), ((tt, tt), (fy, tt))) $ let here = env routine.locals l in
-            lent_self S W V K Y R A g h kind ! a.0.now self_block self_offset $ fsplit ! $ fsplit ! $ move ! (1 ∷ []) $ drop ! $ move ! (1 ∷ []) $ drop ! $ move ! (1 ∷ 2 ∷ []) $
-            opens_self S W V K Y R A g h kind ! tt (place z) self_block self_offset (λ q. first ! $ blocks ! $ sets ! (addr ! (through ! refl (fld ! refl (hop ! (look_in ! 0 (sub ! 0 refl (whole
-            !))) (fld ! refl (stop !)))))) refl (tt, tt) $ closes_self S W V K Y R A g h kind ! tt q (place z) self_block self_offset $
+            let by_mut = plain (λ _. SeatRow) in let staying : Stays swap_promise.signature.params swap_promise.kept =
+            (stay_dropped self yes, (stay_ref (1 ∷ []) tt by_mut, (stay_dropped (plain (λ _. W)) no, tt))) in proved_at 𝓛 swap_promise staying claims 𝓜 𝓡
+            (Goes-dropped 𝓛 9 self yes (λ κs x f. refl), (Goes-ref 𝓛 9 1 tt by_mut, (Goes-dropped 𝓛 9 (plain (λ _. W)) no (λ κs x f. refl), tt))) self_name routine closed (λ y₀ are.
+            let κs = y₀.0.0 in let qs = y₀.0.1 in let a = y₀.0.3 in let self_block : ℕ = a.0.ref_ptr.0 in let self_offset : ℕ = a.0.ref_ptr.1 in let κ : Lft = κs.0 in
+            let s = kind.see a.0.now in let x : R.Denot = s.value in let k = h.dealloc_token s.heap in let z : BlockId = s.id in let α : Lft = life z in let seat_block : ℕ = a.1.0.ref_ptr.0 in
+            let seat_offset : ℕ = a.1.0.ref_ptr.1 in let t : SeatRow.Denot = a.1.0.now in let id : ℕ = t.id in let v : At = t.me in let new : W.Denot = a.1.1.0 in
+            let more : List (ℕ × Place S.Denot W.Denot) = rest v.1 in let pb : ℕ = z.block in let e : ℕ = z.offset + at_second S W in let got = one E y₀.0.4.1.1.0 ((lawful E 𝓛).typed new
+            y₀.0.4.1.1.0 are.1.1.0) in let vy : Val = got.0 in let fy : Good E vy = got.2 in let Of : List Val × (List Val × (List Val × Unit {0})) →
+            (walk_of 𝓛 swap_promise staying claims).Ghost = λ vss. ((κs, qs, y₀.0.2, a, vss), y₀.1) in let start : (walk_of 𝓛 swap_promise staying claims).Ghost = Of
+            (vptr self_block self_offset ∷ [], (vptr seat_block seat_offset ∷ [], (vy ∷ [], tt))) in let returned : Val → SProp 𝓤 = (walk_of 𝓛 swap_promise staying claims).post start
+            in let Beside : Fml = tokens 7 κs.1.1 qs.1.1 in subst (λ (vss : List Val × (List Val × (List Val × Unit {0}))). ent 𝓤 ((walk_of 𝓛 swap_promise staying claims).pre (Of vss))
+            (WpFn 𝓤 H machine.C machine.Λ routine ((walk_of 𝓛 swap_promise staying claims).args (Of vss)) ((walk_of 𝓛 swap_promise staying claims).post (Of vss)))) (λ i.
+            (sym are.0.0 i, (sym are.1.0.0 i, (sym got.1 i, tt)))) (asked κs a y₀.1 (on_entry 𝓛 swap_promise.signature κs qs a start.0.4) (WpFn 𝓤 H machine.C machine.Λ routine (vptr
+            self_block self_offset ∷ vptr seat_block seat_offset ∷ vy ∷ []) returned) (λ same taken. let old : W.Denot = taken.0 in qed 𝓛 (((‵ (flft κs.0 qs.0) ⊛
+            ‵ (flft κs.1.0 qs.1.0) ⊛ ‵ Beside) ⊛ ‵ (owns (types_at swap_promise.signature.params κs) a start.0.4)) ∷ []) ∵ split ! $ split3 ! $ move ! (3 ∷ []) $ fsplit ! $
+            fsplit ! $ move ! (2 ∷ []) $ fsplit ! $ fsplit3 ! $ move ! (3 ∷ []) $ fsplit ! $ keep ! (6 ∷ 7 ∷ 3 ∷ 4 ∷ 8 ∷ 9 ∷ 0 ∷ []) $
+            enter ! machine.C machine.Λ routine (vptr self_block self_offset ∷ vptr seat_block seat_offset ∷ vy ∷ []) returned $ alloc_all ! (λ l. pass_all ! refl
+            ((tt, tt), ((tt, tt), (fy, tt))) $ let here = env routine.locals l in lent_self S W V K Y R A g h kind ! a.0.now self_block self_offset $ fsplit ! $ fsplit ! $ move ! (1 ∷ []) $
+            drop ! $ move ! (1 ∷ []) $ drop ! $ move ! (1 ∷ 2 ∷ []) $ opens_self S W V K Y R A g h kind ! tt (place z) self_block self_offset (λ q. first ! $ blocks ! $
+            sets ! (addr ! (through ! refl (fld ! refl (hop ! (look_in ! 0 (sub ! 0 refl (whole !))) (fld ! refl (stop !)))))) refl (tt, tt) $ closes_self S W V K Y R A g h kind ! tt q (place z)
+            self_block self_offset $
             -- [the token; the fields; the age's token, lent; the seat, in two; its token; the others; the new value]
             move ! (2 ∷ 0 ∷ []) $ shr_bor-open ! tt (tokens_halve 𝓛 α) (λ r. move ! (3 ∷ 4 ∷ 5 ∷ []) $ opens ! tt SeatRow seat_block seat_offset (λ bits. move ! (1 ∷ []) $
             fsplit ! $ rewrite ! 1 (λ (u : BlockId). ‵ (seat_owns S W u V.coded.code id v)) same refl $ rewrite ! 1 (λ (cs : List (ℕ × Place S.Denot W.Denot)). ‵ (seat_owns S W z
@@ -246,8 +246,8 @@ module _ {M : Type 1} {𝓤 : Ura M} (𝓛 : Logic 𝓤) (𝓜 : Model 𝓤 𝓛
             move ! (3 ∷ 1 ∷ []) $ fjoin ! $ move ! (3 ∷ 0 ∷ 4 ∷ 5 ∷ 6 ∷ []) $ closes ! tt SeatRow t' bits seat_block seat_offset $ feq_i ! (List Val) (vptr seat_block seat_offset ∷
             []) (vptr seat_block seat_offset ∷ []) refl $ fjoin3 ! $ nothing ! $ nothing ! $ fjoin ! $ move ! (1 ∷ 0 ∷ []) $ fjoin ! $ nothing ! $ fjoin ! $ move ! (1 ∷ 5 ∷ []) $ join ! $
             move ! (2 ∷ 0 ∷ []) $ join ! $ use0 𝓛 (raw ((claims κs a).ensures y₀.1 old (at_exit swap_promise κs a (tt, (t', (tt, tt)))))) (told κs a y₀.1 old same taken.1) $
-            returns ! (look_at ! 0 refl) $ free_all ! refl $ keep ! (1 ∷ 2 ∷ 3 ∷ 0 ∷ []) $ by ! (leaves 𝓛 swap_promise staying claims start vo old (tt, (t', (tt, tt))) (tt, (tt, (tt,
-            tt))))))))))))
+            returns ! (look_at ! 0 refl) $ free_all ! refl $ keep ! (1 ∷ 2 ∷ 3 ∷ 0 ∷ []) $ by ! (leaves 𝓛 swap_promise staying claims start vo old (tt, (t', (tt, tt)))
+            (tt, (tt, (tt, tt))))))))))))
 
     module _ (M₀ : RattleType) (m : BlockPlay.Ghosts M₀.Denot (Place S₀.Denot W₀.Denot) V₀.Denot K₀.Denot) (outlives : List (Outlives 10)) (shows : ℕ → Type 0) where
       abbrev load_promise : Ended
@@ -275,10 +275,10 @@ module _ {M : Type 1} {𝓤 : Ura M} (𝓛 : Logic 𝓤) (𝓜 : Model 𝓤 𝓛
             let then = m.then s.key (step 2 0 0 0 maybe.none) v in
             let P : Fml = content (param 0 S₀) (param 1 W₀) (param 5 T₀) (h.dealloc_token s.heap) z s.value in let cv = (param 2 V₀).coded in
             a.1.0.now.block ≡ z → (allows : Allows holds 2 a.1.0.now.id v 0 f then) → ((r : Share) → ent 𝓤 (sep 𝓤 (𝓛.A.inv (block (param 0 S₀) (param 1 W₀) cv.code holds g.out P
-                z))
+            z))
             (sep 𝓤 (sem 𝓛 (gripped z.grips kind.grip r)) (sem 𝓛 (seat_owns (param 0 S₀) (param 1 W₀) z cv.code a.1.0.now.id v)))) (asks 𝓛 (block_ptr z.block (z.offset + 0)) f always
             (moving.after 𝓛 (param 0 S₀) (param 1 W₀) cv holds g.out P z a.1.0.now.id v f then allows (λ n. fsep (fex (shows n) (λ _. ftrue)) (gripped z.grips kind.grip r))))) →
-                ent 𝓤 X G)
+            ent 𝓤 X G)
             → ent 𝓤 (sep 𝓤 X ((claims κs a).requires gh)) G
 
         abbrev pub LoadTold : Type 1
@@ -292,20 +292,21 @@ module _ {M : Type 1} {𝓤 : Ura M} (𝓛 : Logic 𝓤) (𝓜 : Model 𝓤 𝓛
         loaded one c self_name calls closed asked told =
             let H = 𝓛.H in let S : RattleType = param 0 S₀ in let V = param 2 V₀ in let K = param 3 K₀ in let Y = param 4 Y₀ in let A = param 6 A₀ in let code = load_routine one c in
             let self = RefOf (0 ∷ []) tt (plain (λ _. OwnRow)) (λ _. tt) in let by_mut = plain (λ _. SeatRow) in let staying : Stays load_promise.signature.params load_promise.kept =
-            (stay_dropped self yes, (stay_ref (1 ∷ []) tt by_mut, tt)) in proved 𝓛 load_promise staying claims 𝓜 𝓡 (Goes-dropped 𝓛 10 self yes (λ κs x f. refl), (Goes-ref 𝓛 10 1
-            tt by_mut, tt)) self_name code closed (λ κs. (shr_vals, (mut_vals, tt))) (λ κs. (shr_Tells (named 0) κs.0 OwnRow, (mut_Tells (named 1) κs.1.0 SeatRow, tt))) (λ κs qs bounds a gh
-            are. let self_block : ℕ = a.0.ref_ptr.0 in let self_offset : ℕ = a.0.ref_ptr.1 in let κ : Lft = κs.0 in let s = kind.see a.0.now in let x : R.Denot = s.value in
-            let k = h.dealloc_token s.heap in let z : BlockId = s.id in let seat_block : ℕ = a.1.0.ref_ptr.0 in let seat_offset : ℕ = a.1.0.ref_ptr.1 in let t : SeatRow.Denot = a.1.0.now in
-            let id : ℕ = t.id in let v : At = t.me in let f : ℕ → ℕ = λ n. n in let then : ℕ → At → Type 0 = m.then s.key (step 2 0 0 0 maybe.none) v in
-            let Beside : Fml = tokens 8 κs.1.1 qs.1.1 in let pb : ℕ = z.block in let e : ℕ = z.offset + 0 in let P : Fml = content S W R k z x in let holds = g.holds s.key in
-            let J : Fml = block S W V.coded.code holds g.out P z in let start : (walk_of 𝓛 load_promise staying claims).Ghost = ((κs, qs, bounds, a, (vptr self_block self_offset ∷
-            [], (vptr seat_block seat_offset ∷ [], tt))), gh) in let returned : Val → SProp 𝓤 = (walk_of 𝓛 load_promise staying claims).post start in
-            asked κs a gh (on_entry 𝓛 load_promise.signature κs qs a start.0.4) (WpFn 𝓤 H machine.C machine.Λ code (vptr self_block self_offset ∷ vptr seat_block seat_offset ∷
-            []) returned) (λ same allows looks. qed 𝓛 (((‵ (flft κ qs.0) ⊛ ‵ (flft κs.1.0 qs.1.0) ⊛ ‵ Beside) ⊛ ‵ (owns (types_at load_promise.signature.params κs) a start.0.4))
-            ∷ []) ∵ split ! $ split3 ! $ move ! (3 ∷ []) $ fsplit3 ! $ fsplit ! $ move ! (2 ∷ []) $ fsplit3 ! $ keep ! (4 ∷ 6 ∷ 1 ∷ 2 ∷ 7 ∷ 8 ∷ []) $
-            enter ! machine.C machine.Λ code (vptr self_block self_offset ∷ vptr seat_block seat_offset ∷ []) returned $ alloc_all ! (λ l. pass_all ! refl ((tt, tt), ((tt, tt), tt)) $
-            let here = env code.locals l in lent_self S W V K Y R A g h kind ! a.0.now self_block self_offset $ fsplit ! $ fsplit ! $ move ! (2 ∷ []) $ fsplit ! $
-            use1 𝓛 (‵ (finv J)) (kept_inv S W V.coded.code holds g.out P z 𝓛) $
+            (stay_dropped self yes, (stay_ref (1 ∷ []) tt by_mut, tt)) in proved 𝓛 load_promise staying claims 𝓜 𝓡
+            (Goes-dropped 𝓛 10 self yes (λ κs x f. refl), (Goes-ref 𝓛 10 1 tt by_mut, tt)) self_name code closed (λ κs. (shr_vals, (mut_vals, tt))) (λ κs.
+            (shr_Tells (named 0) κs.0 OwnRow, (mut_Tells (named 1) κs.1.0 SeatRow, tt))) (λ κs qs bounds a gh are. let self_block : ℕ = a.0.ref_ptr.0 in
+            let self_offset : ℕ = a.0.ref_ptr.1 in let κ : Lft = κs.0 in let s = kind.see a.0.now in let x : R.Denot = s.value in let k = h.dealloc_token s.heap in let z : BlockId = s.id in
+            let seat_block : ℕ = a.1.0.ref_ptr.0 in let seat_offset : ℕ = a.1.0.ref_ptr.1 in let t : SeatRow.Denot = a.1.0.now in let id : ℕ = t.id in let v : At = t.me in let f : ℕ →
+            ℕ = λ n. n in let then : ℕ → At → Type 0 = m.then s.key (step 2 0 0 0 maybe.none) v in let Beside : Fml = tokens 8 κs.1.1 qs.1.1 in let pb : ℕ = z.block in
+            let e : ℕ = z.offset + 0 in let P : Fml = content S W R k z x in let holds = g.holds s.key in let J : Fml = block S W V.coded.code holds g.out P z in
+            let start : (walk_of 𝓛 load_promise staying claims).Ghost = ((κs, qs, bounds, a, (vptr self_block self_offset ∷ [], (vptr seat_block seat_offset ∷ [], tt))), gh) in
+            let returned : Val → SProp 𝓤 = (walk_of 𝓛 load_promise staying claims).post start in asked κs a gh (on_entry 𝓛 load_promise.signature κs qs a start.0.4) (WpFn 𝓤 H
+            machine.C machine.Λ code (vptr self_block self_offset ∷ vptr seat_block seat_offset ∷ []) returned) (λ same allows looks. qed 𝓛 (((‵ (flft κ qs.0) ⊛
+            ‵ (flft κs.1.0 qs.1.0) ⊛ ‵ Beside) ⊛ ‵ (owns (types_at load_promise.signature.params κs) a start.0.4)) ∷ []) ∵ split ! $ split3 ! $ move ! (3 ∷ []) $ fsplit3 ! $
+            fsplit ! $ move ! (2 ∷ []) $ fsplit3 ! $ keep ! (4 ∷ 6 ∷ 1 ∷ 2 ∷ 7 ∷ 8 ∷ []) $ enter ! machine.C machine.Λ code (vptr self_block self_offset ∷
+            vptr seat_block seat_offset ∷ []) returned $ alloc_all ! (λ l. pass_all ! refl ((tt, tt), ((tt, tt), tt)) $ let here = env code.locals l in
+            lent_self S W V K Y R A g h kind ! a.0.now self_block self_offset $ fsplit ! $ fsplit ! $ move ! (2 ∷ []) $ fsplit ! $ use1 𝓛 (‵ (finv J)) (kept_inv S W V.coded.code holds g.out P
+            z 𝓛) $
             -- [the invariant; the value; the two tokens, lent; the fields; the token; the seat, in two; its token; the others]
             move ! (1 ∷ []) $ drop ! $ move ! (1 ∷ []) $ drop ! $ move ! (2 ∷ 3 ∷ 1 ∷ []) $ opens_self S W V K Y R A g h kind ! tt (place z) self_block self_offset (λ q. first ! $
             blocks ! $ sets ! (addr ! (through ! refl (fld ! refl (hop ! (look_in ! 0 (sub ! 0 refl (whole !))) (fld ! refl (stop !)))))) refl (tt, tt) $
@@ -315,15 +316,15 @@ module _ {M : Type 1} {𝓤 : Ura M} (𝓛 : Logic 𝓤) (𝓜 : Model 𝓤 𝓛
             (fex (shows n) (λ _. ftrue)) (gripped z.grips kind.grip r)) in move ! (4 ∷ 5 ∷ 6 ∷ []) $ opens ! tt SeatRow seat_block seat_offset (λ bits. move ! (1 ∷ []) $ fsplit ! $
             rewrite ! 1 (λ (w : BlockId). ‵ (seat_owns S W w V.coded.code id v)) same refl $ move ! (9 ∷ 7 ∷ 1 ∷ []) $ use3 𝓛 (raw (machine.C _ (vptr pb e ∷ seq_cst ∷
             []) (λ u. mean 𝓛 (found out u)))) (via 𝓤 _ (looks r) (calls (block_ptr pb e) out)) $ sets ! (agg ! (and_then ! (lit ! tt) (no_more !))) refl (tt, (record { fits = lit< tt }, tt))
-            $ Calls-last ! (fm 𝓛 𝓜 𝓡) (found out) (and_then ! (get ! refl) (and_then ! (get ! refl) (no_more !))) (λ u. finds ! out (λ n fits. lands_last ! refl (tt, record { fits = fits
-            }) $ exec ! machine.C machine.Λ here (after 1 code.body) (at_ret here returned) $ sets ! (of_opd ! (get ! refl)) refl (tt, record { fits = fits }) $ fsplit ! $ fsplit ! $
-            fpick ! (λ live. drop ! $ move ! (7 ∷ 0 ∷ []) $ obor_close ! tt $ drop ! $ move ! (1 ∷ []) $ fpick ! (λ v'. fsplit ! $ fpick ! (λ so. drop ! $
+            $ Calls-last ! (fm 𝓛 𝓜 𝓡) (found out) (and_then ! (get ! refl) (and_then ! (get ! refl) (no_more !))) (λ u. finds ! out (λ n fits. lands_last ! refl
+            (tt, record { fits = fits }) $ exec ! machine.C machine.Λ here (after 1 code.body) (at_ret here returned) $ sets ! (of_opd ! (get ! refl)) refl (tt, record { fits = fits }) $ fsplit ! $
+            fsplit ! $ fpick ! (λ live. drop ! $ move ! (7 ∷ 0 ∷ []) $ obor_close ! tt $ drop ! $ move ! (1 ∷ []) $ fpick ! (λ v'. fsplit ! $ fpick ! (λ so. drop ! $
             let t' : SeatRow.Denot = record { marker = t.marker; block = z; id = id; me = v' } in move ! (2 ∷ 0 ∷ []) $ fjoin ! $ move ! (2 ∷ 0 ∷ 3 ∷ 4 ∷ 5 ∷ []) $
             closes ! tt SeatRow t' bits seat_block seat_offset $ feq_i ! (List Val) (vptr seat_block seat_offset ∷ []) (vptr seat_block seat_offset ∷ []) refl $ fjoin3 ! $ nothing ! $
             move ! (1 ∷ 0 ∷ []) $ fjoin ! $ nothing ! $ fjoin ! $ move ! (1 ∷ 4 ∷ []) $ join ! $ move ! (2 ∷ 0 ∷ []) $ join ! $ use0 𝓛 (raw ((claims κs a).ensures gh n (at_exit
             load_promise κs a (tt, (t', tt))))) (told κs a gh n v' same so live) $ flt_i ! n (2 ^ 64) fits $ feq_i ! (List Val) (vint w64 n ∷ []) (vint w64 n ∷ []) refl $ fjoin ! $
-            returns ! (look_at ! 0 refl) $ free_all ! refl $ keep ! (2 ∷ 3 ∷ 0 ∷ 1 ∷ []) $ by ! (leaves 𝓛 load_promise staying claims start (vint w64 n) n (tt, (t', tt)) (tt, (tt,
-            tt))))))))))))))
+            returns ! (look_at ! 0 refl) $ free_all ! refl $ keep ! (2 ∷ 3 ∷ 0 ∷ 1 ∷ []) $ by ! (leaves 𝓛 load_promise staying claims start (vint w64 n) n (tt, (t', tt))
+            (tt, (tt, tt))))))))))))))
 
   module _ (M₀ : RattleType) (d dh dd : mir.Dict) (m : BlockPlay.Ghosts M₀.Denot (Place S₀.Denot W₀.Denot) V₀.Denot K₀.Denot) (dm : mir.Dict) where
     abbrev promise : Ended
@@ -332,7 +333,7 @@ module _ {M : Type 1} {𝓤 : Ura M} (𝓛 : Logic 𝓤) (𝓜 : Model 𝓤 𝓛
     abbrev routine : mir.Fn → mir.Callee → mir.Fn
     routine one c = let S : RattleType = param 0 S₀ in let R : RattleType = param 5 T₀ in
         let own : RattleType = share.the_row S W (param 2 V₀) (param 3 K₀) (param 4 Y₀) R (param 6 A₀) g h in let there : mir.Ty = lone own.mir in
-            let within : mir.Ty = lone (inner.the_row S W R).mir in
+        let within : mir.Ty = lone (inner.the_row S W R).mir in
         record one { locals = fetch_locals there within (pointee own.written) (pointee SeatRow.written) (lone Order.the_row.mir); body = step_body there within 4 (mir.copy (mir.place 3 []) ∷ []) c }
 
     module _ (does : ℕ → ℕ → ℕ) (claims : Clauses 𝓤 promise) where
@@ -344,8 +345,13 @@ module _ {M : Type 1} {𝓤 : Ura M} (𝓛 : Logic 𝓤) (𝓜 : Model 𝓤 𝓛
 
       abbrev pub Told : Type 1
       Told = (κs : Lfts 10) (a : Args promise.signature κs) (gh : (claims κs a).ghost) (n : ℕ) (u : At) → a.1.0.now.block ≡ a.0.now.id
-          → m.then a.0.now.key (step 2 0 a.1.1.0 0 maybe.none) a.1.0.now.me n u → 0 < g.out n → let t : SeatRow.Denot = record { marker = a.1.0.now.marker; block = a.0.now.id; id =
-          a.1.0.now.id; me = u } in
+          → m.then a.0.now.key (step 2 0 a.1.1.0 0 maybe.none) a.1.0.now.me n u → 0 < g.out n → let t : SeatRow.Denot = record {
+            marker = a.1.0.now.marker;
+            block = a.0.now.id;
+            id =
+                a.1.0.now.id;
+            me = u;
+          } in
           ent 𝓤 (emp 𝓤) ((claims κs a).ensures gh n (at_exit promise κs a (tt, (t, (tt, tt)))))
 
       pub fetched : (one : mir.Fn) (c self_name : mir.Callee) → ((p : Ptr) (w : ℕ) → w < 2 ^ 64 → (after : ℕ → Fml)
@@ -354,15 +360,16 @@ module _ {M : Type 1} {𝓤 : Ura M} (𝓛 : Logic 𝓤) (𝓜 : Model 𝓤 𝓛
       fetched one c self_name calls closed asked told =
           let H = 𝓛.H in let S : RattleType = param 0 S₀ in let V = param 2 V₀ in let K = param 3 K₀ in let Y = param 4 Y₀ in let A = param 6 A₀ in
           let OwnRow : RattleType = share.the_row S W V K Y R A g h in let I = share_kind S W V K Y R A g h in let self = RefOf (0 ∷ []) tt (plain (λ _. OwnRow)) (λ _. tt) in
-          let by_mut = plain (λ _. SeatRow) in let number = plain (λ _. u64) in let staying : Stays promise.signature.params promise.kept = (stay_dropped self yes, (stay_ref (1 ∷
-          []) tt by_mut, (stay_dropped number yes, tt))) in proved 𝓛 promise staying claims 𝓜 𝓡 (Goes-dropped 𝓛 10 self yes (λ κs x f. refl), (Goes-ref 𝓛 10 1 tt by_mut,
-          (Goes-dropped 𝓛 10 number yes (λ κs x f. refl), tt))) self_name (routine one c) closed (λ κs. (shr_vals, (mut_vals, (uint_vals w64, tt)))) (λ κs. (shr_Tells (named 0) κs.0
-          OwnRow, (mut_Tells (named 1) κs.1.0 SeatRow, (uint_Tells w64, tt)))) (λ κs qs bounds a gh are. let self_block : ℕ = a.0.ref_ptr.0 in let self_offset : ℕ = a.0.ref_ptr.1 in
-          let κ : Lft = κs.0 in let s : OwnRow.Denot = a.0.now in let x : R.Denot = s.value in let k = h.dealloc_token s.heap in let z : BlockId = s.id in let seat_block : ℕ = a.1.0.ref_ptr.0 in
-          let seat_offset : ℕ = a.1.0.ref_ptr.1 in let t : SeatRow.Denot = a.1.0.now in let id : ℕ = t.id in let v : At = t.me in let w : ℕ = a.1.1.0 in let f : ℕ → ℕ = does w in
-          let then : ℕ → At → Type 0 = m.then a.0.now.key (step 2 0 w 0 maybe.none) v in let Beside : Fml = tokens 8 κs.1.1 qs.1.1 in let pb : ℕ = z.block in let e : ℕ = z.offset + 0 in
-          let P : Fml = content S W R k z x in let holds = g.holds s.key in let J : Fml = block S W V.coded.code holds g.out P z in let start : (walk_of 𝓛 promise staying claims).Ghost = ((κs,
-          qs, bounds, a, (vptr self_block self_offset ∷ [], (vptr seat_block seat_offset ∷ [], (vint w64 w ∷ [], tt)))), gh) in let returned : Val →
+          let by_mut = plain (λ _. SeatRow) in let number = plain (λ _. u64) in let staying : Stays promise.signature.params promise.kept =
+          (stay_dropped self yes, (stay_ref (1 ∷ []) tt by_mut, (stay_dropped number yes, tt))) in proved 𝓛 promise staying claims 𝓜 𝓡
+          (Goes-dropped 𝓛 10 self yes (λ κs x f. refl), (Goes-ref 𝓛 10 1 tt by_mut, (Goes-dropped 𝓛 10 number yes (λ κs x f. refl), tt))) self_name (routine one c) closed (λ κs.
+          (shr_vals, (mut_vals, (uint_vals w64, tt)))) (λ κs. (shr_Tells (named 0) κs.0 OwnRow, (mut_Tells (named 1) κs.1.0 SeatRow, (uint_Tells w64, tt)))) (λ κs qs bounds a gh are. let
+          self_block : ℕ = a.0.ref_ptr.0 in let self_offset : ℕ = a.0.ref_ptr.1 in let κ : Lft = κs.0 in let s : OwnRow.Denot = a.0.now in let x : R.Denot = s.value in
+          let k = h.dealloc_token s.heap in let z : BlockId = s.id in let seat_block : ℕ = a.1.0.ref_ptr.0 in let seat_offset : ℕ = a.1.0.ref_ptr.1 in let t : SeatRow.Denot = a.1.0.now in
+          let id : ℕ = t.id in let v : At = t.me in let w : ℕ = a.1.1.0 in let f : ℕ → ℕ = does w in let then : ℕ → At → Type 0 = m.then a.0.now.key (step 2 0 w 0 maybe.none) v in
+          let Beside : Fml = tokens 8 κs.1.1 qs.1.1 in let pb : ℕ = z.block in let e : ℕ = z.offset + 0 in let P : Fml = content S W R k z x in let holds = g.holds s.key in
+          let J : Fml = block S W V.coded.code holds g.out P z in let start : (walk_of 𝓛 promise staying claims).Ghost =
+          ((κs, qs, bounds, a, (vptr self_block self_offset ∷ [], (vptr seat_block seat_offset ∷ [], (vint w64 w ∷ [], tt)))), gh) in let returned : Val →
           SProp 𝓤 = (walk_of 𝓛 promise staying claims).post start in asked κs a gh (on_entry 𝓛 promise.signature κs qs a start.0.4) (WpFn 𝓤 H machine.C machine.Λ (routine one c) (vptr
           self_block self_offset ∷ vptr seat_block seat_offset ∷ vint w64 w ∷ []) returned) (λ same allows counted. qed 𝓛 (((‵ (flft κ qs.0) ⊛ ‵ (flft κs.1.0 qs.1.0) ⊛
           ‵ Beside) ⊛ ‵ (owns (types_at promise.signature.params κs) a start.0.4)) ∷ []) ∵ split ! $ split3 ! $ move ! (3 ∷ []) $ fsplit3 ! $ fsplit ! $ move ! (2 ∷ []) $ fsplit3 ! $

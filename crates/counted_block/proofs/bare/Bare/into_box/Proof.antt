@@ -31,10 +31,10 @@ into_box_spec 𝓤 𝓛 𝓜 𝓡 wired X Z L LZ g d dd met md =
     let p : Ptr = block_ptr b o in rewrite ! 0 (λ (s : Z.Denot). ‵ (box_owns (token E.al s) R p x)) asked refl $ move ! (1 ∷ []) $ handle_tells E.al ! a z.0.4.1.0 (λ hv eh fa. move ! (1 ∷
     []) $ keep ! (0 ∷ 1 ∷ 3 ∷ []) $ let inb : InBlock v.at = subst InBlock (sym at) tt in let us : List Val = ptr_and_marker v.at ∷ hv ∷ [] in let ev : z.0.4.0 ≡ ptr_and_marker v.at ∷
     [] = pair_told v.at z.0.4.0 are.0.0 in let start : Made.Ghost = ((κs, qs, tt, (a, (p, tt)), (hv ∷ [], (vptr b o ∷ [], tt))), x) in suffices ! (Run us) (subst (λ (ws : List Val). ent 𝓤
-    (Run us) (Run ws)) (sym (λ i. ev i ++ (eh i ++ []))) (id⊢ 𝓤 (Run us))) $ enter ! machine.C machine.Λ routine us returned $ alloc_all ! (λ l. pass_all ! refl (pair_typed v.at inb, (fa,
-    tt)) $ let here = env routine.locals l in sets ! (is ! (of_opd ! (get_in ! (fld ! refl (stop !)) (sub ! 0 refl (whole !)))) (ap ptr_val at)) refl (tt, tt) $ first ! $ blocks ! $
-    sets ! (of_opd ! (get ! refl)) refl fa $ use0 𝓛 (raw (fact 𝓤 inZ)) (fact_i 𝓤 inZ (emp 𝓤) leZ) $ join ! $ use0 𝓛 (raw (fact 𝓤 inX)) (fact_i 𝓤 inX (emp 𝓤) leX) $ join ! $
-    nothing ! $ feq_i ! (List Val) (vptr b o ∷ []) (vptr b o ∷ []) refl $ move ! (3 ∷ 0 ∷ 1 ∷ []) $ fjoin3 ! $ move ! (2 ∷ 0 ∷ []) $ join ! $ join ! $
+    (Run us) (Run ws)) (sym (λ i. ev i ++ (eh i ++ []))) (id⊢ 𝓤 (Run us))) $ enter ! machine.C machine.Λ routine us returned $ alloc_all ! (λ l. pass_all ! refl
+    (pair_typed v.at inb, (fa, tt)) $ let here = env routine.locals l in sets ! (is ! (of_opd ! (get_in ! (fld ! refl (stop !)) (sub ! 0 refl (whole !)))) (ap ptr_val at)) refl (tt, tt) $ first ! $
+    blocks ! $ sets ! (of_opd ! (get ! refl)) refl fa $ use0 𝓛 (raw (fact 𝓤 inZ)) (fact_i 𝓤 inZ (emp 𝓤) leZ) $ join ! $ use0 𝓛 (raw (fact 𝓤 inX)) (fact_i 𝓤 inX (emp 𝓤) leX) $
+    join ! $ nothing ! $ feq_i ! (List Val) (vptr b o ∷ []) (vptr b o ∷ []) refl $ move ! (3 ∷ 0 ∷ 1 ∷ []) $ fjoin3 ! $ move ! (2 ∷ 0 ∷ []) $ join ! $ join ! $
     use1 𝓛 (raw (Made.pre start)) (id⊢ 𝓤 _) $ calls_at_last ! (fm 𝓛 𝓜 𝓡) Made known start (and_then ! (get ! refl) (and_then ! (get ! refl) (no_more !))) (λ u. use1 𝓛 (later
     (some (λ (r : B.Denot). ((t₁ ⊛ t₂ ⊛ ‵ ftrue) ⊛ ‵ (B.own_val r (u ∷ []))) ⊛ some (λ (ws : Lasts Ce κs (a, (p, tt))). ‵ (lasts Ce κs (a, (p, tt)) ws) ⊛
     (raw (fact 𝓤 (r.value ≡ x)) ⊛ raw (fact 𝓤 (r.alloc ≡ a))))))) (id⊢ 𝓤 _) $ await ! tt $ pick ! (λ r. split ! $ move ! (1 ∷ []) $ pick ! (λ _. split3 ! $ drop ! $

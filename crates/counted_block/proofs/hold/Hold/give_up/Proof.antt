@@ -1,10 +1,10 @@
 -- `give_up` is one step on the holds of the block, which may have ended.
-use Rattle.counted_block.proofs.Names.{◌≡◌, ℕ, ◌+◌, ◌^◌, eqb, List, [], ◌∷◌, ◌++◌, refl, ap, lit<, w64, dcons, dnil, Val, vint, vptr, vstruct, vcons, vnil, of_list, SProp}
-use Rattle.counted_block.proofs.Names.{inst_fn, emp, Fml, ftrue, fsep, feq, finv, ‵, raw, ◌⊛◌, mean, at_ret, ◌$◌, ◌∵◌, !, qed, by, move, keep, drop, split, fsplit, fsplit3, fjoin}
-use Rattle.counted_block.proofs.Names.{fpick, fpack, use0, use1, use2, via, feq_i, flt_i, stop, fld, addr, lit, of_opd, no_more, and_then, first, blocks, exec, Calls-last, returns, enter, alloc_all}
-use Rattle.counted_block.proofs.Names.{pass_all, free_all, look_at, get, get_in, through, sets, is, lands_last, env, agg, sub, whole, tables, fact, fact_i, no, RattleType, Valss, owns, types_at, fm}
-use Rattle.counted_block.proofs.Names.{plain, Ptr, block_ptr, ptr_val, nothing, u64, param, bounded, Stays, stay_dropped, walk_of, Goes-dropped, after, proved, leaves, seq_cst, found, finds, subs}
-use Rattle.counted_block.proofs.Names.{BlockId, place, block, content, ptr_and_marker, pair_typed, in_place, kept_inv, alive, Types, seven, PairData, pair_told, pair_made}
+use Rattle.counted_block.proofs.Names.{◌≡◌, ℕ, ◌+◌, eqb, [], ◌∷◌, refl, ap, lit<, w64, dcons, dnil, Val, vint, vptr, vstruct, vcons, vnil, SProp, inst_fn, emp, Fml, ftrue, finv}
+use Rattle.counted_block.proofs.Names.{‵, raw, ◌⊛◌, mean, at_ret, ◌$◌, ◌∵◌, !, qed, by, move, keep, drop, split, fsplit, fsplit3, fjoin, fpick, use0, use1, use2, via, stop, fld}
+use Rattle.counted_block.proofs.Names.{addr, lit, of_opd, no_more, and_then, first, blocks, exec, Calls-last, returns, enter, alloc_all, pass_all, free_all, look_at, get, get_in, through, sets, is}
+use Rattle.counted_block.proofs.Names.{lands_last, env, agg, sub, whole, tables, fact, fact_i, no, RattleType, owns, types_at, fm, plain, Ptr, block_ptr, ptr_val, nothing, param, bounded, Stays}
+use Rattle.counted_block.proofs.Names.{stay_dropped, walk_of, Goes-dropped, after, proved, leaves, seq_cst, found, finds, subs, BlockId, place, block, content, ptr_and_marker, pair_typed, in_place}
+use Rattle.counted_block.proofs.Names.{kept_inv, alive, Types, seven, pair_told, located, numbered}
 use mathlib.Core.Option as maybe
 use Rattle.counted_block.specs.contracts.hold.Hold as hold
 use Rattle.counted_block.specs.contracts.remains.Remains as remains
@@ -22,11 +22,11 @@ give_up_spec 𝓤 𝓛 𝓜 𝓡 wired S₀ W₀ V₀ K₀ Y₀ T₀ A₀ _ _ _ 
     proved 𝓛 promise staying claims 𝓜 𝓡 (Goes-dropped 𝓛 7 self no (λ κs x f. refl), tt) (promised.Key.name at_types) routine (code.unfolded 𝓤 H 𝓜 𝓡 wired types d dh dd) (λ
     κs. ((λ w. ptr_and_marker w.at ∷ []), tt)) (λ κs. ((λ w vs so. pair_told w.at vs so.0), tt)) (λ κs qs bounds a gh are. let s : OwnRow.Denot = a.0 in let p : Ptr = s.at in
     let x : R.Denot = s.value in let k = h.dealloc_token s.heap in let z : BlockId = s.id in let pb : ℕ = z.block in let e : ℕ = z.offset + 8 in let P : Fml = content S W R k z x in
-    let holds = g.holds s.key in let J : Fml = block S W V.coded.code holds g.out P z in let start : (walk_of 𝓛 promise staying claims).Ghost = ((κs, qs, bounds, a, (ptr_and_marker p ∷
-    [], tt)), gh) in let returned : Val → SProp 𝓤 = (walk_of 𝓛 promise staying claims).post start in qed 𝓛 ((raw (alive 𝓛 promise.signature κs qs) ⊛
-    ‵ (owns (types_at promise.signature.params κs) a start.0.4)) ∷ raw (fact 𝓤 _) ∷ raw (fact 𝓤 _) ∷ raw (fact 𝓤 _) ∷ raw (fact 𝓤 _) ∷ raw (fact 𝓤 _) ∷
-    raw (fact 𝓤 _) ∷ raw (fact 𝓤 _) ∷ ‵ ftrue ∷ []) ∵ keep ! (0 ∷ []) $ split ! $ move ! (1 ∷ []) $ fsplit ! $ fsplit ! $ keep ! (1 ∷ 3 ∷ []) $ fsplit ! $
-    fpick ! (λ at. drop ! $ fsplit3 ! $ move ! (1 ∷ []) $ use1 𝓛 (‵ (finv J)) (kept_inv S W V.coded.code holds g.out P z 𝓛) $
+    let holds = g.holds s.key in let J : Fml = block S W V.coded.code holds g.out P z in let start : (walk_of 𝓛 promise staying claims).Ghost =
+    ((κs, qs, bounds, a, (ptr_and_marker p ∷ [], tt)), gh) in let returned : Val → SProp 𝓤 = (walk_of 𝓛 promise staying claims).post start in
+    qed 𝓛 ((raw (alive 𝓛 promise.signature κs qs) ⊛ ‵ (owns (types_at promise.signature.params κs) a start.0.4)) ∷ raw (fact 𝓤 _) ∷ raw (fact 𝓤 _) ∷ raw (fact 𝓤 _) ∷
+    raw (fact 𝓤 _) ∷ raw (fact 𝓤 _) ∷ raw (fact 𝓤 _) ∷ raw (fact 𝓤 _) ∷ ‵ ftrue ∷ []) ∵ keep ! (0 ∷ []) $ split ! $ move ! (1 ∷ []) $ fsplit ! $ fsplit ! $
+    keep ! (1 ∷ 3 ∷ []) $ fsplit ! $ fpick ! (λ at. drop ! $ fsplit3 ! $ move ! (1 ∷ []) $ use1 𝓛 (‵ (finv J)) (kept_inv S W V.coded.code holds g.out P z 𝓛) $
     -- [the invariant; the parts; the value; the tokens]
     enter ! machine.C machine.Λ routine (ptr_and_marker p ∷ []) returned $ alloc_all ! (λ l. pass_all ! refl (pair_typed p (in_place p z at), tt) $ let here = env routine.locals l in
     sets ! (is ! (of_opd ! (get_in ! (fld ! refl (stop !)) (sub ! 0 refl (whole !)))) (ap ptr_val at)) refl (tt, tt) $ first ! $ blocks ! $ sets ! (addr ! (through ! refl (fld ! refl (stop !))))
@@ -38,12 +38,9 @@ give_up_spec 𝓤 𝓛 𝓜 𝓡 wired S₀ W₀ V₀ K₀ Y₀ T₀ A₀ _ _ _ 
     sets ! (agg ! (and_then ! (get ! refl) (and_then ! (get ! refl) (no_more !)))) refl (tt, (tt, (tt, tt))) $ sets ! (of_opd ! (get ! refl)) refl (tt, (tt, (tt, tt))) $
     sets ! (agg ! (and_then ! (get ! refl) (and_then ! (get ! refl) (no_more !)))) refl (tt, (record { fits = fits }, ((tt, (tt, tt)), tt))) $ let q : Val = ptr_and_marker (place z) in
     let r : Val = vstruct (vcons (vint w64 n) (vcons q vnil)) in let none : ℕ → maybe.Option (ℕ × V.Denot) = λ _. maybe.none in let last = eqb n 9223372036854775809 in
-    let rh : Er.Denot = record { at = place z; marker = s.marker; id = z; key = s.key; value = x; heap = s.heap; there = last; seat = none 0 } in nothing ! $
-    fpack ! (place z ≡ place z) (λ _. ftrue) refl $ fjoin ! $ use0 𝓛 (‵ (PairData.own_val (place z, (tt, tt)) (q ∷ []))) (pair_made 𝓛 (place z)) $ fjoin ! $ nothing ! $ move ! (1 ∷
-    0 ∷ []) $ fjoin ! $ flt_i ! n (2 ^ 64) fits $ feq_i ! (List Val) (vint w64 n ∷ []) (vint w64 n ∷ []) refl $ fjoin ! $ fjoin ! $ feq_i ! (List Val) (r ∷ []) (r ∷ []) refl $ fjoin ! $
-    fpack ! (Valss (u64 ∷ Er ∷ [])) (λ uss. fsep (feq (List Val) (r ∷ []) (vstruct (of_list (uss.0 ++ (uss.1.0 ++ []))) ∷ [])) (owns (u64 ∷ Er ∷ []) (n, (rh, tt)) uss)) (vint w64 n ∷
-    [], (q ∷ [], tt)) $ let Told : Type 0 = (z ≡ z) × (s.key ≡ s.key) × (x ≡ x) × (s.heap ≡ s.heap) × (none 0 ≡ none 0) × (last ≡ last) in
+    let rh : Er.Denot = record { at = place z; marker = s.marker; id = z; key = s.key; value = x; heap = s.heap; there = last; seat = none 0 } in located ! (place z) z refl $
+    numbered ! Er rh q n fits $ let Told : Type 0 = (z ≡ z) × (s.key ≡ s.key) × (x ≡ x) × (s.heap ≡ s.heap) × (none 0 ≡ none 0) × (last ≡ last) in
     use0 𝓛 (raw (fact 𝓤 Told)) (fact_i 𝓤 Told (emp 𝓤) (refl, refl, refl, refl, refl, refl)) $
     -- [what is told; the result; the value; the tokens]
-    nothing ! $ nothing ! $ fjoin ! $ returns ! (look_at ! 0 refl) $ free_all ! refl $ keep ! (4 ∷ 0 ∷ 2 ∷ 1 ∷ []) $ by ! (leaves 𝓛 promise staying claims start r (n, rh) (tt, tt) (tt,
-    tt)))))))
+    nothing ! $ nothing ! $ fjoin ! $ returns ! (look_at ! 0 refl) $ free_all ! refl $ keep ! (4 ∷ 0 ∷ 2 ∷ 1 ∷ []) $ by ! (leaves 𝓛 promise staying claims start r (n, rh) (tt, tt)
+    (tt, tt)))))))

@@ -32,9 +32,9 @@ first_mut_spec 𝓤 𝓛 𝓜 𝓡 wired S₀ W₀ V₀ K₀ Y₀ T₀ A₀ _ _ 
     let γ : ℕ = a.0.ghost_name in let t : Sr.Denot = a.0.now in let id : ℕ = t.id in let v : Me (Place S.Denot W.Denot) V.Denot = t.me in let more : List (ℕ × Place S.Denot W.Denot) = rest
     v.1 in let pb : ℕ = z.block in let e : ℕ = z.offset + at_first S in let δ : ℕ = z.first in let F : S.Denot → Sr.Denot = seat_with t in
     let Mark : Fml = part_at MarkerData full_share (tt, tt) seat_block seat_offset in let Back : Place S.Denot W.Denot → SProp 𝓤 = Swapped 𝓛 S W z V.coded.code id v.0 n more in
-    let Rest : SProp 𝓤 = sep 𝓤 (all 𝓤 Back) (sem 𝓛 Mark) in let In : Fml = first_body S W z in let start : (walk_of 𝓛 promise staying claims).Ghost = ((κs, qs, bounds, a, (vptr
-    seat_block seat_offset ∷ [], (vptr self_block self_offset ∷ [], tt))), gh) in let returned : Val → SProp 𝓤 = (walk_of 𝓛 promise staying claims).post start in
-    let Beside : Fml = tokens 7 κs.1 qs.1 in qed 𝓛 (((‵ (flft κ q) ⊛ ‵ Beside) ⊛ ‵ (owns (types_at promise.signature.params κs) a start.0.4)) ∷ raw (fact 𝓤 _) ∷
+    let Rest : SProp 𝓤 = sep 𝓤 (all 𝓤 Back) (sem 𝓛 Mark) in let In : Fml = first_body S W z in let start : (walk_of 𝓛 promise staying claims).Ghost =
+    ((κs, qs, bounds, a, (vptr seat_block seat_offset ∷ [], (vptr self_block self_offset ∷ [], tt))), gh) in let returned : Val → SProp 𝓤 = (walk_of 𝓛 promise staying claims).post start
+    in let Beside : Fml = tokens 7 κs.1 qs.1 in qed 𝓛 (((‵ (flft κ q) ⊛ ‵ Beside) ⊛ ‵ (owns (types_at promise.signature.params κs) a start.0.4)) ∷ raw (fact 𝓤 _) ∷
     raw (fact 𝓤 _) ∷ raw (fact 𝓤 _) ∷ raw (fact 𝓤 _) ∷ raw (fact 𝓤 _) ∷ raw (fact 𝓤 _) ∷ raw (fact 𝓤 _) ∷ given (t.block ≡ z) (‵ ftrue) ∷
     given ((old : S.Denot) × (v.1 ≡ (n, First old) ∷ more)) (‵ ftrue) ∷ []) ∵ keep ! (8 ∷ 9 ∷ 0 ∷ []) $ learn ! (λ same. drop ! $ learn ! (λ taken. let old : S.Denot = taken.0 in
     let cut : ent 𝓤 (sem 𝓛 (part_at Sr full_share t seat_block seat_offset)) (sep 𝓤 (𝓛.A.obs δ (S.coded.code old)) (sep 𝓤 (𝓛.A.bor α In) Rest)) = qed 𝓛 (‵ (part_at Sr
@@ -50,8 +50,8 @@ first_mut_spec 𝓤 𝓛 𝓜 𝓡 wired S₀ W₀ V₀ K₀ Y₀ T₀ A₀ _ _ 
     let here = env routine.locals l in lent_self S W V K Y R A g h I ! s self_block self_offset $ fsplit ! $ fsplit ! $ move ! (1 ∷ []) $ drop ! $ move ! (1 ∷ []) $ drop ! $
     -- [the age's token, lent; the fields; the seat's value; its borrow; the token; the others]
     move ! (1 ∷ 4 ∷ []) $ opens_self S W V K Y R A g h I ! tt (place z) self_block self_offset (λ q'. first ! $ blocks ! $ sets ! (addr ! (through ! refl (fld ! refl (hop ! (look_in ! 0 (sub !
-    0 refl (whole !))) (fld ! refl (stop !)))))) refl (tt, tt) $ closes_self S W V K Y R A g h I ! tt q' (place z) self_block self_offset $ sets_last ! (addr ! (through ! refl (stop !))) refl (tt,
-    tt) $ exec ! machine.C machine.Λ here (tail routine.body) (at_ret here returned) $ sets ! (of_opd ! (get ! refl)) refl (tt, tt) $
+    0 refl (whole !))) (fld ! refl (stop !)))))) refl (tt, tt) $ closes_self S W V K Y R A g h I ! tt q' (place z) self_block self_offset $ sets_last ! (addr ! (through ! refl (stop !))) refl
+    (tt, tt) $ exec ! machine.C machine.Λ here (tail routine.body) (at_ret here returned) $ sets ! (of_opd ! (get ! refl)) refl (tt, tt) $
     -- [the token; the fields; the age's token, lent; the seat's value; its borrow; the others]
     move ! (2 ∷ 3 ∷ 4 ∷ 0 ∷ []) $ group ! 4 $ use1 𝓛 (later (some (λ (γ' : ℕ). ‵ (fobs γ' (S.coded.code old)) ⊛ ‵ (fbor κ (Body (mem S) pb e γ')) ⊛ ‵ (flft κ q) ⊛
     ‵ (follows Sr S γ γ' F)))) (hands_out 𝓛 (mem Sr) (mem S) F (λ w u same. ap (λ (r : Sr.Denot). first_of w (lib.ListN.get_or r.me.1 0 (n, First w)).1) same) seat_block seat_offset pb e γ

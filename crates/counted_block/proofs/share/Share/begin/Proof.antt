@@ -24,10 +24,10 @@ begin_spec 𝓤 𝓛 𝓜 𝓡 wired S₀ W₀ V₀ K₀ Y₀ T₀ A₀ LS LW _ 
     let at_types = bounded seven types (dcons d (dcons dh (dcons dd dnil))) in let routine = inst_fn at_types code.function in let OwnRow : RattleType = share.the_row S W V K Y R A g h in
     let MaybeRow : RattleType = maybe_share.the_row S W V K Y R A g h in let Ir : RattleType = inner.the_row S W R in let Br : RattleType = bare.the_row Ir A h in
     let SeatRow : RattleType = seat.the_row S W V in let box = plain (λ _. Br) in let about = RefOf (0 ∷ []) tt (plain (λ _. K)) (λ _. tt) in let LR = param_laws 5 T₀ LT in
-    let staying : Stays promise.signature.params promise.kept = (stay_dropped box no, (stay_dropped about yes, tt)) in proved 𝓛 promise staying claims 𝓜 𝓡 (Goes-dropped 𝓛 8 box no (λ
-    κs x f. refl), (Goes-dropped 𝓛 8 about yes (λ κs x f. refl), tt)) (promised.Key.name at_types) routine (code.unfolded 𝓤 H 𝓜 𝓡 wired types d dh dd) (λ κs. ((λ w. ptr_and_marker
-    w.at ∷ []), (shr_vals, tt))) (λ κs. ((λ w vs so. pair_told w.at vs so.0), (shr_Tells (named 0) κs.0 K, tt))) (λ κs qs bounds a gh are. let s : Br.Denot = a.0 in
-    let y : Bool = eqb (g.out s.value.word) 2 in let p₀ : Ptr = s.at in let i : Ir.Denot = s.value in let n : ℕ = i.word in let x : R.Denot = i.value in
+    let staying : Stays promise.signature.params promise.kept = (stay_dropped box no, (stay_dropped about yes, tt)) in proved 𝓛 promise staying claims 𝓜 𝓡
+    (Goes-dropped 𝓛 8 box no (λ κs x f. refl), (Goes-dropped 𝓛 8 about yes (λ κs x f. refl), tt)) (promised.Key.name at_types) routine (code.unfolded 𝓤 H 𝓜 𝓡 wired types d dh dd)
+    (λ κs. ((λ w. ptr_and_marker w.at ∷ []), (shr_vals, tt))) (λ κs. ((λ w vs so. pair_told w.at vs so.0), (shr_Tells (named 0) κs.0 K, tt))) (λ κs qs bounds a gh are. let s : Br.Denot =
+    a.0 in let y : Bool = eqb (g.out s.value.word) 2 in let p₀ : Ptr = s.at in let i : Ir.Denot = s.value in let n : ℕ = i.word in let x : R.Denot = i.value in
     let m : S.Denot × W.Denot = (i.first, i.second) in let k = h.dealloc_token s.heap in let about_at : Val = vptr a.1.0.ref_ptr.0 a.1.0.ref_ptr.1 in let key : K.Denot = a.1.0.now in
     let holds = g.holds key in let v : V.Denot = g.first key in let κ : Lft = κs.1.1.1.1.1.1.0 in let inT : Type 0 = κ ⊑ T₀.lives in let start : (walk_of 𝓛 promise staying claims).Ghost =
     ((κs, qs, bounds, a, (ptr_and_marker p₀ ∷ [], (about_at ∷ [], tt))), gh) in let returned : Val → SProp 𝓤 = (walk_of 𝓛 promise staying claims).post start in
@@ -53,8 +53,8 @@ begin_spec 𝓤 𝓛 𝓜 𝓡 wired S₀ W₀ V₀ K₀ Y₀ T₀ A₀ LS LW _ 
     move ! (12 ∷ 11 ∷ 10 ∷ 9 ∷ 8 ∷ 7 ∷ 5 ∷ 6 ∷ []) $ group ! 8 $ sets ! (is ! (of_opd ! (get_in ! (fld ! refl (stop !)) (sub ! 0 refl (whole !)))) (ap ptr_val at)) refl (tt, tt) $
     sets ! (agg ! (no_more !)) refl (tt, tt) $ sets ! (agg ! (and_then ! (get ! refl) (and_then ! (get ! refl) (no_more !)))) refl (tt, (tt, (tt, tt))) $ sets ! (agg ! (no_more !)) refl (tt, tt) $
     sets ! (agg ! (and_then ! (get ! refl) (and_then ! (get ! refl) (no_more !)))) refl (tt, (tt, (tt, tt))) $ sets ! (agg ! (no_more !)) refl (tt, tt) $
-    sets ! (agg ! (and_then ! (get ! refl) (no_more !))) refl (tt, (tt, tt)) $ sets ! (agg ! (and_then ! (get ! refl) (and_then ! (get ! refl) (and_then ! (get ! refl) (no_more !))))) refl (tt,
-    ((tt, (tt, tt)), ((tt, (tt, tt)), ((tt, tt), tt)))) $
+    sets ! (agg ! (and_then ! (get ! refl) (no_more !))) refl (tt, (tt, tt)) $ sets ! (agg ! (and_then ! (get ! refl) (and_then ! (get ! refl) (and_then ! (get ! refl) (no_more !))))) refl
+    (tt, ((tt, (tt, tt)), ((tt, (tt, tt)), ((tt, tt), tt)))) $
     -- [the tokens; what is kept; the value; the seat; the parts, twice]
     let Kp : Fml = kept_of S W R V.coded.code holds g.out k z x in let Look : Fml = looked_at S W R k z x (life z) in move ! (1 ∷ []) $ use1 𝓛 (‵ Kp ⊛
     ‵ Kp) (kept_twice S W V.coded.code holds g.out (content S W R k z x) z 𝓛) $ split ! $ move ! (3 ∷ []) $ use1 𝓛 (‵ Look ⊛ ‵ Look) (contraction 𝓛 (looked_at S W R k z x)
@@ -68,7 +68,8 @@ begin_spec 𝓤 𝓛 𝓜 𝓡 wired S₀ W₀ V₀ K₀ Y₀ T₀ A₀ LS LW _ 
     let st : SeatRow.Denot = record { marker = record {}; block = z; id = 0; me = (v, []) } in let u : Val = vstruct (vcons q (vcons q (vcons marker_val vnil))) in feq_i ! (List Val) (u ∷
     []) (u ∷ []) refl $ fjoin ! $ fpack ! (Valss (OwnRow ∷ MaybeRow ∷ SeatRow ∷ [])) (λ uss. fsep (feq (List Val) (u ∷ []) (vstruct (of_list (uss.0 ++ (uss.1.0 ++ (uss.1.1.0 ++ [])))) ∷
     [])) (owns (OwnRow ∷ MaybeRow ∷ SeatRow ∷ []) (sh, (mh, (st, tt))) uss)) (q ∷ [], (q ∷ [], (marker_val ∷ [], tt))) $ let A₁ : Type 0 = (key ≡ key) × (x ≡ x) × (s.heap ≡
-    s.heap) in let A₂ : Type 0 = (z ≡ z) × (key ≡ key) × (x ≡ x) × (s.heap ≡ s.heap) × (y ≡ y) × (false ≡ false) in let A₃ : Type 0 = (z ≡ z) × (0 ≡ 0) × ((v, []) ≡ (v,
-    [])) in use0 𝓛 (raw (fact 𝓤 A₃)) (fact_i 𝓤 A₃ (emp 𝓤) (refl, refl, refl)) $ use0 𝓛 (raw (fact 𝓤 A₂)) (fact_i 𝓤 A₂ (emp 𝓤) (refl, refl, refl, refl, refl, refl)) $
-    join ! $ use0 𝓛 (raw (fact 𝓤 A₁)) (fact_i 𝓤 A₁ (emp 𝓤) (refl, refl, refl)) $ join ! $ nothing ! $ nothing ! $ fjoin ! $ nothing ! $ fjoin ! $ returns ! (look_at ! 0 refl) $
-    free_all ! refl $ keep ! (3 ∷ 0 ∷ 2 ∷ 1 ∷ []) $ by ! (leaves 𝓛 promise staying claims start u (sh, mh, st) (tt, (tt, tt)) (tt, (tt, tt))))))))))))
+    s.heap) in let A₂ : Type 0 = (z ≡ z) × (key ≡ key) × (x ≡ x) × (s.heap ≡ s.heap) × (y ≡ y) × (false ≡ false) in let A₃ : Type 0 = (z ≡ z) × (0 ≡ 0) × ((v, []) ≡
+    (v, [])) in use0 𝓛 (raw (fact 𝓤 A₃)) (fact_i 𝓤 A₃ (emp 𝓤) (refl, refl, refl)) $ use0 𝓛 (raw (fact 𝓤 A₂)) (fact_i 𝓤 A₂ (emp 𝓤)
+    (refl, refl, refl, refl, refl, refl)) $ join ! $ use0 𝓛 (raw (fact 𝓤 A₁)) (fact_i 𝓤 A₁ (emp 𝓤) (refl, refl, refl)) $ join ! $ nothing ! $ nothing ! $ fjoin ! $ nothing ! $
+    fjoin ! $ returns ! (look_at ! 0 refl) $ free_all ! refl $ keep ! (3 ∷ 0 ∷ 2 ∷ 1 ∷ []) $ by ! (leaves 𝓛 promise staying claims start u (sh, mh, st) (tt, (tt, tt))
+    (tt, (tt, tt))))))))))))

@@ -1,8 +1,8 @@
 -- `into_maybe` is what a step may leave, and is there.
 use Rattle.counted_block.proofs.Names.{◌≡◌, [], ◌∷◌, refl, dcons, dnil, Val, inst_fn, SProp, emp, ftrue, ‵, raw, ◌⊛◌, ◌$◌, ◌∵◌, !, qed, by, move, keep, drop, split, no}
-use Rattle.counted_block.proofs.Names.{fsplit, fsplit3, fjoin, fjoin3, fpick, fpack, use0, stop, fld, of_opd, no_more, and_then, returns, enter, alloc_all, pass_all, free_all, look_at, get, get_in}
-use Rattle.counted_block.proofs.Names.{sets, agg, sub, whole, tables, fact, fact_i, RattleType, owns, types_at, plain, Ptr, nothing, param, bounded, alive, Stays, stay_dropped, walk_of, proved}
-use Rattle.counted_block.proofs.Names.{Goes-dropped, leaves, true, BlockId, place, ptr_and_marker, pair_typed, ptr_typed, in_place, Types, seven, PairData, pair_told, pair_made, false}
+use Rattle.counted_block.proofs.Names.{fsplit, fsplit3, fjoin, fjoin3, fpick, use0, stop, fld, of_opd, no_more, and_then, returns, enter, alloc_all, pass_all, free_all, look_at, get, get_in, sets}
+use Rattle.counted_block.proofs.Names.{agg, sub, whole, tables, fact, fact_i, RattleType, owns, types_at, plain, Ptr, nothing, param, bounded, alive, Stays, stay_dropped, walk_of, proved}
+use Rattle.counted_block.proofs.Names.{Goes-dropped, leaves, true, BlockId, ptr_and_marker, pair_typed, ptr_typed, in_place, Types, seven, pair_told, false, located}
 use Rattle.counted_block.specs.contracts.share.Share as source
 use Rattle.counted_block.specs.contracts.share.MaybeShare as target
 use Rattle.counted_block.specs.contracts.share.Share.into_maybe as promised
@@ -20,11 +20,10 @@ into_maybe_spec 𝓤 𝓛 𝓜 𝓡 wired S₀ W₀ V₀ K₀ Y₀ T₀ A₀ _ _
     let z : BlockId = s.id in let start : (walk_of 𝓛 promise staying claims).Ghost = ((κs, qs, bounds, a, (ptr_and_marker p ∷ [], tt)), gh) in let returned : Val →
     SProp 𝓤 = (walk_of 𝓛 promise staying claims).post start in qed 𝓛 ((raw (alive 𝓛 promise.signature κs qs) ⊛ ‵ (owns (types_at promise.signature.params κs) a start.0.4)) ∷
     raw (fact 𝓤 _) ∷ raw (fact 𝓤 _) ∷ raw (fact 𝓤 _) ∷ raw (fact 𝓤 _) ∷ raw (fact 𝓤 _) ∷ raw (fact 𝓤 _) ∷ raw (fact 𝓤 _) ∷ ‵ ftrue ∷ []) ∵ keep ! (0 ∷
-    []) $ split ! $ move ! (1 ∷ []) $ fsplit ! $ fsplit ! $ keep ! (1 ∷ 3 ∷ []) $ fsplit ! $ fpick ! (λ at. drop ! $ fsplit3 ! $ let inb = in_place p z at in fjoin3 ! $ nothing ! $
-    fpack ! (p ≡ place z) (λ _. ftrue) at $ fjoin ! $ enter ! machine.C machine.Λ routine (ptr_and_marker p ∷ []) returned $ alloc_all ! (λ l. pass_all ! refl (pair_typed p inb, tt) $
-    sets ! (of_opd ! (get_in ! (fld ! refl (stop !)) (sub ! 0 refl (whole !)))) refl (ptr_typed p inb) $ sets ! (agg ! (no_more !)) refl (tt, tt) $
-    sets ! (agg ! (and_then ! (get ! refl) (and_then ! (get ! refl) (no_more !)))) refl (pair_typed p inb) $ use0 𝓛 (‵ (PairData.own_val (p, (tt, tt)) (ptr_and_marker p ∷
-    []))) (pair_made 𝓛 p) $ fjoin ! $ let sh : MaybeRow.Denot = record { at = p; marker = s.marker; id = z; key = s.key; value = s.value; heap = s.heap; there = true; last = false } in
+    []) $ split ! $ move ! (1 ∷ []) $ fsplit ! $ fsplit ! $ keep ! (1 ∷ 3 ∷ []) $ fsplit ! $ fpick ! (λ at. drop ! $ fsplit3 ! $ let inb = in_place p z at in fjoin3 ! $
+    enter ! machine.C machine.Λ routine (ptr_and_marker p ∷ []) returned $ alloc_all ! (λ l. pass_all ! refl (pair_typed p inb, tt) $ sets ! (of_opd ! (get_in ! (fld ! refl (stop !)) (sub ! 0
+    refl (whole !)))) refl (ptr_typed p inb) $ sets ! (agg ! (no_more !)) refl (tt, tt) $ sets ! (agg ! (and_then ! (get ! refl) (and_then ! (get ! refl) (no_more !)))) refl (pair_typed p inb) $
+    located ! p z at $ let sh : MaybeRow.Denot = record { at = p; marker = s.marker; id = z; key = s.key; value = s.value; heap = s.heap; there = true; last = false } in
     let Told : Type 0 = (z ≡ z) × (s.key ≡ s.key) × (s.value ≡ s.value) × (s.heap ≡ s.heap) × (true ≡ true) × (false ≡ false) in
     use0 𝓛 (raw (fact 𝓤 Told)) (fact_i 𝓤 Told (emp 𝓤) (refl, refl, refl, refl, refl, refl)) $ nothing ! $ nothing ! $ fjoin ! $ returns ! (look_at ! 0 refl) $ free_all ! refl $
     keep ! (3 ∷ 0 ∷ 2 ∷ 1 ∷ []) $ by ! (leaves 𝓛 promise staying claims start (ptr_and_marker p) sh (tt, tt) (tt, tt)))))

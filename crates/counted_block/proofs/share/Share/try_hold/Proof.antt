@@ -1,11 +1,11 @@
 -- `try_hold` is one step on the holds of the block.
-use Rattle.counted_block.proofs.Names.{◌≡◌, ℕ, ◌+◌, ◌^◌, eqb, List, [], ◌∷◌, ◌++◌, refl, lit<, w64, named, dcons, dnil, Val, vint, vptr, vstruct, vcons, vnil, of_list}
-use Rattle.counted_block.proofs.Names.{inst_fn, SProp, emp, Lft, Fml, ftrue, fsep, feq, flft, finv, ‵, raw, ◌⊛◌, mean, at_ret, ◌$◌, ◌∵◌, !, qed, by, move, keep, drop, split, join}
-use Rattle.counted_block.proofs.Names.{fsplit, fjoin, fjoin3, fpack, use0, use1, use2, via, feq_i, flt_i, stop, hop, fld, addr, load, lit, of_opd, no_more, and_then, first, blocks, exec, Calls-last}
-use Rattle.counted_block.proofs.Names.{returns, enter, alloc_all, pass_all, free_all, look_at, get, through, sets, lands_last, env, agg, sub, whole, look_in, tables, fact, fact_i, yes, RattleType}
-use Rattle.counted_block.proofs.Names.{Valss, owns, types_at, plain, block_ptr, nothing, u64, param, bounded, RefOf, shr_vals, shr_Tells, shr_bor-open, obor_close, Stays, stay_dropped, walk_of}
-use Rattle.counted_block.proofs.Names.{Goes-dropped, after, proved, leaves, fm, seq_cst, found, not, finds, BlockId, place, block, content, kept_of, tokens, ptr_and_marker, kept_shows, bumps, Types}
-use Rattle.counted_block.proofs.Names.{seven, PairData, pair_made, halve, of_shares, share_kind, lent_self, opens_self, closes_self}
+use Rattle.counted_block.proofs.Names.{◌≡◌, ℕ, ◌+◌, eqb, [], ◌∷◌, refl, lit<, w64, named, dcons, dnil, Val, vint, vptr, vstruct, vcons, vnil, inst_fn, SProp, emp, Lft, Fml, flft}
+use Rattle.counted_block.proofs.Names.{finv, ‵, raw, ◌⊛◌, mean, at_ret, ◌$◌, ◌∵◌, !, qed, by, move, keep, drop, split, join, fsplit, fjoin, fjoin3, use0, use1, use2, via, stop}
+use Rattle.counted_block.proofs.Names.{hop, fld, addr, load, lit, of_opd, no_more, and_then, first, blocks, exec, Calls-last, returns, enter, alloc_all, pass_all, free_all, look_at, get, through}
+use Rattle.counted_block.proofs.Names.{sets, lands_last, env, agg, sub, whole, look_in, tables, fact, fact_i, yes, RattleType, owns, types_at, plain, block_ptr, nothing, param, bounded, RefOf}
+use Rattle.counted_block.proofs.Names.{shr_vals, shr_Tells, shr_bor-open, obor_close, Stays, stay_dropped, walk_of, Goes-dropped, after, proved, leaves, fm, seq_cst, found, not, finds, BlockId}
+use Rattle.counted_block.proofs.Names.{place, block, content, kept_of, tokens, ptr_and_marker, kept_shows, bumps, Types, seven, halve, of_shares, share_kind, lent_self, opens_self, closes_self}
+use Rattle.counted_block.proofs.Names.{located, numbered}
 use Rattle.counted_block.specs.contracts.share.Share as share
 use Rattle.counted_block.specs.contracts.hold.MaybeHold as maybe_hold
 use Rattle.counted_block.proofs.Holds as holding
@@ -45,12 +45,9 @@ try_hold_spec 𝓤 𝓛 𝓜 𝓡 wired S₀ W₀ V₀ K₀ Y₀ T₀ A₀ _ _ _
     move ! (2 ∷ 0 ∷ []) $ opens_self S W V K Y R A g h I ! tt (place z) self_block self_offset (λ q₂. sets ! (of_opd ! (load ! (through ! refl (fld ! refl (stop !))) (look_in ! 0 (sub ! 0
     refl (whole !))))) refl (tt, tt) $ closes_self S W V K Y R A g h I ! tt q₂ (place z) self_block self_offset $ sets ! (agg ! (no_more !)) refl (tt, tt) $
     sets ! (agg ! (and_then ! (get ! refl) (and_then ! (get ! refl) (no_more !)))) refl (tt, (tt, (tt, tt))) $ sets ! (of_opd ! (get ! refl)) refl (tt, (tt, (tt, tt))) $
-    sets ! (agg ! (and_then ! (get ! refl) (and_then ! (get ! refl) (no_more !)))) refl (tt, (record { fits = fits }, ((tt, (tt, tt)), tt))) $ move ! (2 ∷ 3 ∷ 4 ∷ []) $ fjoin3 ! $ nothing ! $
-    fpack ! (place z ≡ place z) (λ _. ftrue) refl $ fjoin ! $ let u : Val = vstruct (vcons (vint w64 n) (vcons (ptr_and_marker (place z)) vnil)) in let full = eqb n 9223372036854775807 in
-    let mh : MaybeRow.Denot = record { at = place z; marker = s.marker; id = z; key = s.key; value = x; heap = s.heap; there = not full } in use0 𝓛 (‵ (PairData.own_val (place z, (tt, tt))
-    (ptr_and_marker (place z) ∷ []))) (pair_made 𝓛 (place z)) $ fjoin ! $ nothing ! $ flt_i ! n (2 ^ 64) fits $ feq_i ! (List Val) (vint w64 n ∷ []) (vint w64 n ∷ []) refl $ fjoin ! $
-    move ! (0 ∷ 2 ∷ 1 ∷ []) $ fjoin3 ! $ feq_i ! (List Val) (u ∷ []) (u ∷ []) refl $ fjoin ! $ fpack ! (Valss (u64 ∷ MaybeRow ∷ [])) (λ uss. fsep (feq (List Val) (u ∷
-    []) (vstruct (of_list (uss.0 ++ (uss.1.0 ++ []))) ∷ [])) (owns (u64 ∷ MaybeRow ∷ []) (n, (mh, tt)) uss)) (vint w64 n ∷ [], (ptr_and_marker (place z) ∷ [], tt)) $
+    sets ! (agg ! (and_then ! (get ! refl) (and_then ! (get ! refl) (no_more !)))) refl (tt, (record { fits = fits }, ((tt, (tt, tt)), tt))) $ move ! (2 ∷ 3 ∷ 4 ∷ []) $ fjoin3 ! $
+    let u : Val = vstruct (vcons (vint w64 n) (vcons (ptr_and_marker (place z)) vnil)) in let full = eqb n 9223372036854775807 in let mh : MaybeRow.Denot = record
+    { at = place z; marker = s.marker; id = z; key = s.key; value = x; heap = s.heap; there = not full } in located ! (place z) z refl $ numbered ! MaybeRow mh (ptr_and_marker (place z)) n fits $
     -- [the result; the token; the fields; the others]
     move ! (1 ∷ 3 ∷ []) $ join ! $ nothing ! $ nothing ! $ fjoin ! $ let Told : Type 0 = (z ≡ z) × (s.key ≡ s.key) × (x ≡ x) × (s.heap ≡ s.heap) × (not full ≡ not full) in
     use0 𝓛 (raw (fact 𝓤 Told)) (fact_i 𝓤 Told (emp 𝓤) (refl, refl, refl, refl, refl)) $ returns ! (look_at ! 0 refl) $ free_all ! refl $ keep ! (2 ∷ 1 ∷ 3 ∷ 0 ∷ []) $
