@@ -13,14 +13,28 @@ use types.Kit.{suffices, await, updating, done}
 use types.Tokens.{bor_open, obor_alter, obor_close, bor_fracture, one_token}
 use types.RcWeak.{part, part_in}
 use denote.RattleType.{RattleType}
-use denote.Sharing.{ShrLaws, one, held, beside}
-use denote.SharingLaws.{contraction, beside_shr_laws, one_shr_laws, held_shr_laws}
+use denote.Param.Laws.{Laws}
+use denote.Param.Shared.{Sharables, copy_shared}
+use denote.RawPtr.{Ptr, ◌+ₚ◌}
+use denote.Sharing.{ShrLaws, one, held, beside, said}
+use denote.SharingLaws.{said_shr_laws, contraction, beside_shr_laws, one_shr_laws, held_shr_laws}
 use denote.Moves.{moves_from}
 use denote.Steps.{nothing}
-use denote.Struct.Lending.{Lends}
+use denote.Struct.Field.{RawPtr-field}
+use denote.Struct.Laws.{RawPtr-copy, field_copy}
+use denote.Struct.Lending.{Law, Lends, Lends-both, Lends-said, of_Lends, lent_at_shr_laws}
+use denote.Struct.Owning.{Codes, lending, row}
+use denote.Struct.Record.{Record}
+use denote.Struct.Tuple.{Tuple}
+use Rattle.std.specs.contracts.marker.PhantomData as phantom
+use Rattle.std.specs.declared.alloc.Allocator as Alloc
+use Rattle.counted_block.specs.declared.rule.BlockRule.{Ghosts}
+use Rattle.counted_block.specs.declared.share.Share as declared
+use Rattle.counted_block.specs.Layout.{at_value}
+use Rattle.counted_block.specs.Held.{content, looked_at, kept_of, lies_in, owner_of, owner_shown}
 use Rattle.atomic_table.specs.Table.{State}
 use Rattle.counted_block.specs.declared.place.Place.{Place}
-use Rattle.counted_block.specs.Blocks.{BlockId, life, gripped, kept, owner_owns, owner_shares}
+use Rattle.counted_block.specs.Blocks.{BlockId, life, place, gripped, kept, owner_owns, owner_shares}
 use Rattle.counted_block.proofs.Keeping as keeping
 use Rattle.counted_block.proofs.Signs.{Signs, signs}
 
@@ -96,3 +110,27 @@ module _ (R Q : RattleType) {V : Type 0} (c : V → Gv) (holds : State (Place R.
       pub owner_sees : (κ : Lft) → ⟦ shows much k κ ⟧ ⊢ ⟦ t κ ⟧
       owner_sees κ = qed 𝓛 (‵ (shows much k κ) ∷ []) ∵ fsplit ! $ fsplit ! $ move ! (2 ∷ []) $ fsplit ! $ keep ! (2 ∷ 1 ∷ []) $
           by ! (moves_from 𝓛 t L κ (life z) (life z) (meet_⊑_left (life z) κ))
+
+module _ (S W V K Y T A : RattleType) (g : Ghosts Y.Denot S.Denot W.Denot V.Denot K.Denot) (h : Alloc.Ghosts A.Denot) (LT : Laws T) where
+  abbrev pub marked : RattleType
+  marked = Tuple (V ∷ K ∷ Y ∷ A ∷ [])
+
+  pub pair_shared : Sharables (RawPtr-field ∷ phantom.the_field marked ∷ [])
+  pair_shared = (copy_shared RawPtr-field RawPtr-copy, (copy_shared (phantom.the_field marked) (field_copy (phantom.the_type marked) tt), tt))
+
+  -- a `&` to an owner has a part of the token and of its grip, the invariant, and the value as it is lent
+  pub owner_law : (N : Record) (cs : Codes N) (see : N.D → declared.Share S.Denot W.Denot V.Denot K.Denot Y.Denot T.Denot A.Denot) (much : Share → Type 0) (k : ℕ) → Sharables N.parts
+      → Law (row (lending N cs (λ d. let s = see d in owner_of S W T V.coded.code (g.holds s.key) g.out (h.dealloc_token s.heap) s.id s.value s.at much k)
+      (λ d _. let s = see d in owner_shown S W T V.coded.code (g.holds s.key) g.out (h.dealloc_token s.heap) s.id s.value s.at much k)))
+  owner_law N cs see much k shared =
+      let own : N.D → Fml = λ d. let s = see d in owner_of S W T V.coded.code (g.holds s.key) g.out (h.dealloc_token s.heap) s.id s.value s.at much k in
+      let lent : N.D → Ptr → Lft → Fml = λ d _. let s = see d in owner_shown S W T V.coded.code (g.holds s.key) g.out (h.dealloc_token s.heap) s.id s.value s.at much k in
+      let lies : N.D → Fml = λ d. let s = see d in lies_in S W T V.coded.code (g.holds s.key) g.out (h.dealloc_token s.heap) s.id s.value s.at in
+      let t : N.D → Lft → Fml = λ d. let s = see d in looked_at S W T (h.dealloc_token s.heap) s.id s.value in
+      let kept : N.D → Fml = λ d. let s = see d in kept_of S W T V.coded.code (g.holds s.key) g.out (h.dealloc_token s.heap) s.id s.value in
+      let laws : (d : N.D) → ShrLaws (t d) = λ d. let s = see d in lent_at_shr_laws T LT.shr_laws (place s.id +ₚ at_value S W T) s.value in
+      of_Lends N cs own lent (λ d p. let s = see d in beside_shr_laws (said (lies d)) (owner_shares (kept d) (t d) much k s.id) (said_shr_laws (lies d) (λ _. tt))
+      (shows_laws S W V.coded.code (g.holds s.key) g.out (content S W T (h.dealloc_token s.heap) s.id s.value) s.id (t d) (laws d) much k)) shared
+      (λ M 𝓤 𝓛 d p. let s = see d in let l : Lft = (row (lending N cs own lent)).lives in
+      Lends-both 𝓛 (lies d) (owner_owns (kept d) (t d) much k s.id) (said (lies d)) (owner_shares (kept d) (t d) much k s.id) l (Lends-said 𝓛 (lies d) (λ _. tt) l)
+      (lends_owner S W V.coded.code (g.holds s.key) g.out (content S W T (h.dealloc_token s.heap) s.id s.value) s.id (t d) (laws d) 𝓛 much k l))

@@ -5,7 +5,6 @@ pub mod Counting
 pub mod Moving
 pub mod Holds
 pub mod Ending
-pub mod Entering
 pub mod Keeping
 pub mod Lending
 pub mod Sent
@@ -17,4 +16,5 @@ pub mod Tokens
 pub mod Signs
 pub mod Names
 pub mod Fields
-pub mod Fetching
+pub mod Owners
+pub mod Heard

@@ -46,8 +46,8 @@ pub use Rattle.counted_block.specs.Blocks.{BlockId, seat_owns, block, life, plac
 pub use Rattle.counted_block.specs.Counts.{Notes, Less, Same, More}
 pub use Rattle.counted_block.specs.Held.{content, kept_of, share_shown, value_there, slots_there, rebox, looked_at, hold_shown, last_shown}
 pub use Rattle.counted_block.proofs.Tokens.{tokens, seven, eight}
-pub use Rattle.counted_block.proofs.Fields.{PairData, MarkerData, pair_told, pair_at, pair_made, marker_made, ShareData, HoldData, LastData, LedgerData, share_lent, hold_lent, last_lent, ledger_lent, share_opens}
-pub use Rattle.counted_block.proofs.Fields.{hold_opens, last_opens, ptr_and_marker, marker_val, in_place, ptr_typed, pair_typed}
+pub use Rattle.counted_block.proofs.Fields.{PairData, MarkerData, pair_told, pair_at, pair_made, marker_made, LedgerData, ledger_lent}
+pub use Rattle.counted_block.proofs.Fields.{located, numbered, Kind, share_kind, hold_kind, last_kind, Data, owner_row, lent_self, opens_self, closes_self, ptr_and_marker, marker_val, in_place, ptr_typed, pair_typed}
 pub use Rattle.counted_block.proofs.Keeping.{kept_inv, kept_shows, kept_twice}
 pub use types.SemTy.{Body}
 pub use denote.Follow.{follows}

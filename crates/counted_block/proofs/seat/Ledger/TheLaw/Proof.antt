@@ -16,11 +16,10 @@ use Rattle.counted_block.specs.Blocks.{place}
 use Rattle.counted_block.specs.Held.{content, looked_at}
 use Rattle.counted_block.proofs.Keeping.{kept_laws}
 use Rattle.counted_block.proofs.Lending.{lends_kept}
-use Rattle.counted_block.proofs.seat.Ledger.TheLaw.Statement.{statement}
 
 pub shares : (S W V K Y T A : RattleType) (g : Ghosts Y.Denot S.Denot W.Denot V.Denot K.Denot) (h : Alloc.Ghosts A.Denot) (LS : Laws S) (LW : Laws W) (LV : Laws V) (LK : Laws K) (LY : Laws Y)
     (LT : Laws T) (LA : Laws A)
-    → statement S W V K Y T A g h LS LW LV LK LY LT LA
+    → Rattle.counted_block.proofs.seat.Ledger.TheLaw.Statement.statement S W V K Y T A g h LS LW LV LK LY LT LA
 shares S W V K Y T A g h LS LW LV LK LY LT LA = let Marked = Tuple (S ∷ W ∷ V ∷ K ∷ Y ∷ T ∷ A ∷ []) in
     of_Lends (C.struct S W V K Y T A g h) (C.the_codes S.Denot W.Denot V.Denot K.Denot Y.Denot T.Denot A.Denot S.coded W.coded V.coded K.coded Y.coded T.coded A.coded (phantom.the_row Marked).coded)
     (C.the_heap S W V K Y T A g h) (C.the_lent S W V K Y T A g h) (λ d p. kept_laws S W V.coded.code (g.holds d.key) g.out (content S W T (h.dealloc_token d.heap) d.id d.value) d.id)

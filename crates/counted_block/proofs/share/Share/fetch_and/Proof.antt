@@ -1,21 +1,15 @@
 -- `fetch_and` is a fetch, and the seat goes with it.
-use Rattle.counted_block.proofs.Names.{◌≡◌, ℕ, [], ◌∷◌, sym, refl, emp, ftrue, ‵, raw, given, ◌$◌, ◌∵◌, !, qed, by, keep, drop, learn, fact, fact_i, step, Allows, Same, picked, inst_fn}
-use Rattle.counted_block.proofs.Names.{ands, bit_and, use0, join, done, ◌<◌}
-use mathlib.Core.Option as maybe
+use Rattle.counted_block.proofs.Names.{[], ◌∷◌, sym, refl, picked, inst_fn, ands, bit_and, dcons, dnil, Types, bounded, eight}
 use Rattle.core.proofs.raw_atomic.fetch_and.Symbol as called
-use Rattle.counted_block.specs.contracts.share.Share.fetch_and.{clauses}
-use Rattle.counted_block.specs.contracts.share.Share.fetch_and.Key.{name as #self}
-use Rattle.counted_block.proofs.share.Share.fetch_and.Statement.{statement}
+use Rattle.counted_block.specs.contracts.share.Share.fetch_and as promised
 use Rattle.counted_block.proofs.share.Share.fetch_and.Code as code
-use Rattle.counted_block.proofs.Fetching as fetching
+use Rattle.counted_block.proofs.Heard.{hears, says_both}
+use Rattle.counted_block.proofs.Owners as owners
 
-pub fetch_and_spec : {M : Type 1} → statement M
+pub fetch_and_spec : {M : Type 1} → Rattle.counted_block.proofs.share.Share.fetch_and.Statement.statement M
 fetch_and_spec 𝓤 𝓛 𝓜 𝓡 wired S₀ W₀ V₀ K₀ Y₀ T₀ A₀ M₀ _ _ _ _ _ _ _ _ g d h dh dd m dm _ _ _ _ =
-    fetching.fetched 𝓛 𝓜 𝓡 S₀ W₀ V₀ K₀ Y₀ T₀ A₀ M₀ g d h dh dd m dm (λ w n. bit_and n w) (clauses S₀ W₀ V₀ K₀ Y₀ T₀ A₀ M₀ g d h dh dd m dm 𝓛 𝓜.mem
-    𝓡.returns) (inst_fn (fetching.at_types 𝓛 𝓜 𝓡 S₀ W₀ V₀ K₀ Y₀ T₀ A₀ M₀ g d h dh dd m dm) code.function) (called.name picked) (#self (fetching.at_types 𝓛 𝓜 𝓡 S₀
-    W₀ V₀ K₀ Y₀ T₀ A₀ M₀ g d h dh dd m dm)) (ands 𝓛 𝓜 𝓡 (code.calls-std::sync::atomic::raw::fetch_and 𝓡.env wired)) (code.unfolded 𝓤 𝓛.H 𝓜 𝓡 wired
-    (S₀, (W₀, (V₀, (K₀, (Y₀, (T₀, (A₀, (M₀, tt)))))))) d dh dd dm) (λ κs a gh X G go. let does : ℕ → ℕ → ℕ = λ w n. bit_and n w in
-    qed 𝓛 (raw X ∷ raw (fact 𝓤 _) ∷ raw (fact 𝓤 _) ∷ raw (fact 𝓤 _) ∷ raw (fact 𝓤 _) ∷ raw (fact 𝓤 _) ∷ raw (fact 𝓤 _) ∷ raw (fact 𝓤 _) ∷ raw (fact 𝓤 _) ∷
-    given (a.1.0.now.block ≡ a.0.now.id) (‵ ftrue) ∷ given (Allows (g.holds a.0.now.key) 2 a.1.0.now.id a.1.0.now.me 0 (does a.1.1.0) (m.then a.0.now.key (step 2 0 a.1.1.0 0 maybe.none) a.1.0.now.me))
-    (‵ ftrue) ∷ given (Same (g.holds a.0.now.key) g.out a.1.0.now.id a.1.0.now.me.0 (does a.1.1.0)) (‵ ftrue) ∷ []) ∵ keep ! (9 ∷ 10 ∷ 11 ∷ 0 ∷ []) $ learn ! (λ same. drop ! $
-    learn ! (λ allows. drop ! $ learn ! (λ counted. drop ! $ by ! (go same allows counted))))) (λ κs a gh n u same so live. qed 𝓛 [] ∵ use0 𝓛 (raw (fact 𝓤 (0 < g.out n))) (fact_i 𝓤 _ (emp 𝓤) live) $ use0 𝓛 (raw (fact 𝓤 _)) (fact_i 𝓤 _ (emp 𝓤) (sym same, refl, so)) $ join ! $ done !)
+    let types : Types eight = (S₀, (W₀, (V₀, (K₀, (Y₀, (T₀, (A₀, (M₀, tt)))))))) in let at_types = bounded eight types (dcons d (dcons dh (dcons dd (dcons dm dnil)))) in
+    owners.fetched 𝓛 𝓜 𝓡 S₀ W₀ V₀ K₀ Y₀ T₀ A₀ g h M₀ d dh dd m dm (λ w n. bit_and n w) (promised.clauses S₀ W₀ V₀ K₀ Y₀ T₀ A₀ M₀ g d h dh dd m dm 𝓛
+    𝓜.mem 𝓡.returns) (inst_fn at_types code.function) (called.name picked) (promised.Key.name at_types) (ands 𝓛 𝓜 𝓡 (code.calls-std::sync::atomic::raw::fetch_and 𝓡.env wired))
+    (code.unfolded 𝓤 𝓛.H 𝓜 𝓡 wired types d dh dd dm) (λ κs a gh X G go. hears 𝓛 X G _ (_ ∷ _ ∷ _ ∷ _ ∷ _ ∷ _ ∷ _ ∷ _ ∷ _ ∷ _ ∷
+    []) (λ _ _ _ _ _ _ _ _. go)) (λ κs a gh n u same so live. says_both 𝓛 _ _ (sym same, refl, so) live)
