@@ -17,6 +17,10 @@ use Rattle.task_steps.specs.declared.attempt.TriedOnce.{TriedOnce}
 use Rattle.task_steps.specs.declared.attempt.TriedOnce.TheVariants.{Made, Ended, Again}
 use Rattle.task_steps.proofs.Acts.{written_if}
 use Rattle.task_steps.specs.Shares.{shares_out, counted, MayBring, MayGive}
+use Rattle.counted_block.specs.Blocks.{BlockId}
+use Rattle.task_cell.specs.declared.cell.Cell.{Cell}
+use Rattle.task_cell.specs.declared.cell.MaybeShare.{MaybeShare}
+use Rattle.task_cell.specs.Grips.{HasLeft, MayCount}
 use Rattle.task_steps.proofs.Shares.{Brings, Gives, Moves, may_bring, may_give}
 use Rattle.task_steps.proofs.Allowed.{OwesChange}
 use prog.Atomic.{either}
@@ -242,6 +246,11 @@ module _ {F T A : Type 0} where
   pub give_still : {values : Values F T} {Row : Type 0} (limit key id other : ℕ) (me now : Me (TaskPlace F T A) View) (change : Attempt Row) (w : State) → key ≡ limit → other ≡ id → HasSeen w me now → MayGive values limit id me change → MayGive values key other now change
   give_still {values = values} limit key id other me now change w a e s may = subst (λ (z : ℕ × ℕ × Me (TaskPlace F T A) View). MayGive values z.0 z.1 z.2 change) (λ i. (sym a i, sym e i, sym s.is i)) (λ t v applied names. may t v applied names)
 
+  pub count_still : (values : Values F T) {Row : Type 0} (gives : Bool) (limit key id other : ℕ) (me now : Me (TaskPlace F T A) View) (change : Attempt Row) (w : State) → key ≡ limit → other ≡ id → HasSeen w me now
+      → MayCount gives values limit id me change → MayCount gives values key other now change
+  count_still values true limit key id other me now change w a e s may = give_still limit key id other me now change w a e s may
+  count_still values false limit key id other me now change w a e s may = subst (λ l. MayBring values l other now change) (sym a) (bring_still limit id other me now change w e s may)
+
   -- what the rule allows a party that stands here, with what its change does to the shares
   pub may_bring_at : {values : Values F T} {Row : Type 0} (limit : ℕ) (p : Party F T A) (at : Position) (held : List (ℕ × TaskPlace F T A)) → StandsWith at held p → (change : Attempt Row) → ((w : State) → change.ends (limit_of p) w ≡ change.ends limit w)
       → OwesChange F T A values limit change at (deeds p) [] held → Moves F T A values limit (λ b _. Brings b) change at (deeds p) [] → OwesEnd F T A values limit change at (deeds p) [] held
@@ -265,9 +274,21 @@ module _ {F O A : Type 0} {G : Ghosts F O} where
       → MayTry (values_of G terms.future.value) terms.limit 2 id me change → MayTry (values_of G key.future.value) key.limit 2 other now change
   may_still_by terms key id other me now change w a e s may = subst (λ (k : Terms F). MayTry (values_of G k.future.value) k.limit 2 other now change) (sym a) (may_still terms.limit terms.limit id other me now change w refl e s may)
 
-  pub give_still_by : {Row : Type 0} (terms key : Terms F) (id other : ℕ) (me now : Me (TaskPlace F (Kept F O G) A) View) (change : Attempt Row) (w : State) → key ≡ terms → other ≡ id → HasSeen w me now
-      → MayGive (values_of G terms.future.value) terms.limit id me change → MayGive (values_of G key.future.value) key.limit other now change
-  give_still_by terms key id other me now change w a e s may = subst (λ (k : Terms F). MayGive (values_of G k.future.value) k.limit other now change) (sym a) (give_still terms.limit terms.limit id other me now change w refl e s may)
+  pub count_still_by : {Row : Type 0} (gives : Bool) (terms key : Terms F) (id other : ℕ) (me now : Me (TaskPlace F (Kept F O G) A) View) (change : Attempt Row) (w : State) → key ≡ terms → other ≡ id → HasSeen w me now
+      → MayCount gives (values_of G terms.future.value) terms.limit id me change → MayCount gives (values_of G key.future.value) key.limit other now change
+  count_still_by gives terms key id other me now change w a e s may = subst (λ (k : Terms F). MayCount gives (values_of G k.future.value) k.limit other now change) (sym a) (count_still (values_of G terms.future.value) gives terms.limit terms.limit id other me now change w refl e s may)
+
+  -- a look by a share of the cell whose key is the same
+  pub may_by_key : {Row : Type 0} (terms key : Terms F) (id : ℕ) (me : Me (TaskPlace F (Kept F O G) A) View) (change : Attempt Row) → key ≡ terms → MayTry (values_of G terms.future.value) terms.limit 2 id me change → MayTry (values_of G key.future.value) key.limit 2 id me change
+  may_by_key terms key id me change a may = subst (λ (k : Terms F). MayTry (values_of G k.future.value) k.limit 2 id me change) (sym a) may
+
+  pub ended_by_look : {Row : Type 0} (terms key : Terms F) (change : Attempt Row) (w : State) (me after : Me (TaskPlace F (Kept F O G) A) View) → key ≡ terms → HasEnded (values_of G key.future.value) key.limit change w me after → HasEnded (values_of G terms.future.value) terms.limit change w me after
+  ended_by_look terms key change w me after a c = subst (λ (k : Terms F). HasEnded (values_of G k.future.value) k.limit change w me after) a c
+
+  -- what is left of another share of the cell is left of this one
+  pub left_by : {R Q M B : Type 0} (gives : Bool) (id other : BlockId) (terms key : Terms F) (value another : Cell R Q M B) (maybe : MaybeShare R F Q M A B O G) (counts last : Bool) → (other ≡ id) × (another ≡ value) × (key ≡ terms)
+      → HasLeft gives other key another maybe counts last → HasLeft gives id terms value maybe counts last
+  left_by {R} {Q} {M} {B} gives id other terms key value another maybe counts last e h = subst (λ (z : BlockId × Terms F × Cell R Q M B). HasLeft gives z.0 z.1 z.2 maybe counts last) (λ i. (e.0 i, e.2 i, e.1 i)) h
 
   pub changed_by_key : {Row : Type 0} (terms key : Terms F) (change : Attempt Row) (v : State) (row : Row) (me now after : Me (TaskPlace F (Kept F O G) A) View) → key ≡ terms → HasSeen v me now
       → HasChanged (values_of G key.future.value) key.limit change row now after → HasChanged (values_of G terms.future.value) terms.limit change row me after

@@ -10,6 +10,7 @@ use Rattle.task_cell.specs.declared.cell.MaybeShare.{MaybeShare}
 use Rattle.task_cell.specs.declared.cell.LastShare.{LastShare}
 use Rattle.task_cell.specs.declared.share.Ledger.{Ledger}
 use Rattle.task_steps.specs.declared.table.Deed.{Deed}
+use Rattle.task_steps.specs.declared.table.Terms.{Terms}
 use Rattle.task_steps.specs.Deeds.{after}
 use Rattle.task_steps.specs.Values.{Values, values_of}
 use Rattle.task_steps.specs.declared.kept.Kept.{Kept}
@@ -69,12 +70,16 @@ module _ {R F Q M A B O T : Type 0} {G : Ghosts F O} where
   IsOfLast last party = party.seat.block ≡ last.block.id
 
 module _ {R F Q M A B O : Type 0} {G : Ghosts F O} where
-  -- a step of this share's holder has made or left a share of the same cell where the first is true, or else the last share where the second is
-  pub record LeavesBy (share : Share R F Q M A B O G) (maybe : MaybeShare R F Q M A B O G) (there last : Bool) : Type 0 where
-    pub cell : (maybe.maybe.id ≡ share.block.id) × (maybe.maybe.value ≡ share.block.value)
-    pub terms : maybe.maybe.key ≡ share.block.key
+  -- a step has made or left a share of this block where the first is true, or else the last share where the second is
+  pub record LeftOf (id : BlockId) (key : Terms F) (value : Cell R Q M B) (maybe : MaybeShare R F Q M A B O G) (there last : Bool) : Type 0 where
+    pub cell : (maybe.maybe.id ≡ id) × (maybe.maybe.value ≡ value)
+    pub terms : maybe.maybe.key ≡ key
     pub is_there : maybe.maybe.there ≡ there
     pub is_last : maybe.maybe.last ≡ last
+
+  -- a step of this share's holder has done so
+  abbrev pub LeavesBy : Share R F Q M A B O G → MaybeShare R F Q M A B O G → Bool → Bool → Type 0
+  LeavesBy share maybe there last = LeftOf share.block.id share.block.key share.block.value maybe there last
 
   -- the same where the last share is never left
   abbrev pub Leaves : Share R F Q M A B O G → MaybeShare R F Q M A B O G → Bool → Type 0

@@ -1,5 +1,6 @@
 pub mod Fitting
 pub mod Belongs
+pub mod Grips
 pub mod Calls
 pub mod Witnessed
 pub mod Starts

@@ -1,14 +1,19 @@
 //! The steps on the word: one try of a change, tries until it is made, and the loads and fetches that a call makes whatever word it finds.
-ghost use Rattle.std.specs.Prelude.{◌⊎◌, ◌≡◌, ◌<◌, not, IfOk, IfErr, Option, None, true, false, ⊤, ◌-◌, ◌^◌, IfSome, IfNone, ◌==◌, ◌+◌, ◌%◌, [], bit_and, bit_or};
+ghost use Rattle.std.specs.Prelude.{◌⊎◌, ◌≡◌, ◌<◌, not, IfOk, IfErr, Option, None, true, false, ◌-◌, ◌^◌, IfSome, IfNone, Bool, ◌==◌, ◌+◌, ◌%◌, [], bit_and, bit_or};
 ghost use Rattle.task_core.specs.Word.{HasRoom, State};
 ghost use Rattle.task_laws.specs.Asks.{is_held};
 ghost use Rattle.task_steps.specs.Attempts.{Names, having_seen, MayTry, HasChanged, HasEnded, HasSeen, HasTried, HasFound, TriesOn, HasLooked, HasMissed, IsUndecided, IfMade, IfAgain, Decides};
 ghost use Rattle.task_steps.specs.Knows.{Knows};
-ghost use Rattle.task_steps.specs.Shares.{MayBring, MayGive};
+ghost use Rattle.counted_block.specs.Blocks.{BlockId};
+ghost use Rattle.task_steps.specs.Shares.{MayBring};
+ghost use Rattle.task_steps.specs.Values.{values_of};
+ghost use Rattle.task_steps.specs.declared.table.Terms.{Terms};
+ghost use Rattle.task_cell.specs.declared.cell.Cell.{Cell};
+ghost use Rattle.task_cell.specs.Grips.{HasLeft, MayCount};
 ghost use Rattle.task_steps.specs.Steps.{Makes};
 ghost use Rattle.task_steps.specs.declared.table.Tries.{Tries};
 ghost use Rattle.atomic_table.specs.Table.{step};
-ghost use Rattle.task_cell.specs.Belongs.{IsOf, IsSame, Leaves, LeavesBy, limit_in, values_in};
+ghost use Rattle.task_cell.specs.Belongs.{IsOf, Leaves, LeavesBy, limit_in, values_in};
 ghost use Rattle.task_cell.specs.Calls.{BringsShare, EndsShare, MayWrite, MayMake, MayGiveUp, MaySplit, deeds};
 ghost use mathlib.Core.Option.{none};
 ghost use prog.Atomic.{either};
@@ -24,6 +29,265 @@ use task_steps::Knowing;
 use task_steps::attempt::{Attempting, Change, Observing, TriedOnce};
 use task_steps::script::{Giving, Script};
 use task_steps::table::{Kept, TaskPlace, TaskSeat, Terms, View};
+
+/// How an attempt has the share of its party: lent, so that the change may bring another one, or by value, so that it may give that one up.
+pub(crate) trait Grip<R: Drop, F: Yields, Q: Drop, M: Drop, A: Drop, B: Allocator + Copy>: Sized {
+    // The block of the share.
+    ghost id: { Self → BlockId };
+    // What its task was spawned with.
+    ghost key: { Self → Terms F };
+    // What all handles of the task see.
+    ghost value: { Self → Cell R Q M B };
+    // Whether the change may give the share up.
+    ghost gives: { Bool };
+
+    // The share, lent.
+    fn lent(&self) -> &Share<R, F, Q, M, A, B>
+        ensures { (result.now.block.id ≡ Self.id self.now) × (result.now.block.key ≡ Self.key self.now) × (result.now.block.value ≡ Self.value self.now) };
+
+    // Tries a change once on this word, which the party has seen: by an exchange, or by a look at the word where the change cannot be made on this one.
+    fn try_once<P: Change>(
+        self,
+        party: &mut Party<F, Kept<F>, A>,
+        word: Word,
+    ) -> TriedOnce<P::Row, MaybeShare<R, F, Q, M, A, B>, Self>
+        requires cell { party.old.seat.block ≡ Self.id self }
+        requires limit { (w : State) → P.attempt.ends party.old.seat.me.0.limit w ≡ P.attempt.ends (Self.key self).limit w }
+        requires room { HasRoom word }
+        requires seen { (t : Option Tries) × Names word t × (party.old.seat.me.0 ≡ having_seen t party.old.seat.me.0) }
+        requires allowed { MayTry (values_of F.Yields (Self.key self).future.value) (Self.key self).limit 2 party.old.seat.id party.old.seat.me P.attempt }
+        requires shares { MayCount Self.gives (values_of F.Yields (Self.key self).future.value) (Self.key self).limit party.old.seat.id party.old.seat.me P.attempt }
+        ensures seat { (party.new.seat.block ≡ party.old.seat.block) × (party.new.seat.id ≡ party.old.seat.id) }
+        ensures tried { HasTried (values_of F.Yields (Self.key self).future.value) (Self.key self).limit P.attempt result party.old.seat.me party.new.seat.me }
+        ensures again { IfAgain result (λ w. TriesOn (Self.key self).limit P.attempt word w party.old.seat.me party.new.seat.me) }
+        ensures share { IfMade result (λ row m. HasLeft Self.gives (Self.id self) (Self.key self) (Self.value self) m (P.attempt.counts row) (P.attempt.lasts row)) (λ k. (Self.id k ≡ Self.id self) × (Self.value k ≡ Self.value self) × (Self.key k ≡ Self.key self)) };
+
+    // Tries a change from this word on, by at most this many tries: what it found, and what it left or brought, or the word on which it is to be tried again, with the grip. Then each try has found another word than it was tried on, unless the last word leaves the change undecided. So after a look, one try is enough where no other party writes. It cannot wait.
+    #[inline(always)]
+    final fn attempt_some<P: Change>(
+        self,
+        party: &mut Party<F, Kept<F>, A>,
+        mut word: Word,
+        tries: u64,
+    ) -> TriedOnce<P::Row, MaybeShare<R, F, Q, M, A, B>, Self>
+        requires cell { party.old.seat.block ≡ Self.id self }
+        requires limit { (w : State) → P.attempt.ends party.old.seat.me.0.limit w ≡ P.attempt.ends (Self.key self).limit w }
+        requires room { HasRoom word }
+        requires seen { (t : Option Tries) × Names word t × (party.old.seat.me.0 ≡ having_seen t party.old.seat.me.0) }
+        requires allowed { MayTry (values_of F.Yields (Self.key self).future.value) (Self.key self).limit 2 party.old.seat.id party.old.seat.me P.attempt }
+        requires shares { MayCount Self.gives (values_of F.Yields (Self.key self).future.value) (Self.key self).limit party.old.seat.id party.old.seat.me P.attempt }
+        ensures seat { (party.new.seat.block ≡ party.old.seat.block) × (party.new.seat.id ≡ party.old.seat.id) }
+        ensures tried { HasTried (values_of F.Yields (Self.key self).future.value) (Self.key self).limit P.attempt result party.old.seat.me party.new.seat.me }
+        ensures looked { IfAgain result (λ w. HasLooked tries party.old.seat.me party.new.seat.me ⊎ IsUndecided (Self.key self).limit P.attempt w) }
+        ensures share { IfMade result (λ row m. HasLeft Self.gives (Self.id self) (Self.key self) (Self.value self) m (P.attempt.counts row) (P.attempt.lasts row)) (λ k. (Self.id k ≡ Self.id self) × (Self.value k ≡ Self.value self) × (Self.key k ≡ Self.key self)) }
+    {
+        let mut grip = self;
+        for round in 0..tries {
+            match grip.try_once::<P>(party, word) {
+                TriedOnce::Made(row, maybe) => return TriedOnce::Made(row, maybe),
+                TriedOnce::Ended(found, kept) => return TriedOnce::Ended(found, kept),
+                TriedOnce::Again(found, kept) => {
+                    if found.bits() == word.bits() {
+                        return TriedOnce::Again(found, kept);
+                    }
+                    word = found;
+                    grip = kept;
+                }
+            }
+        }
+        TriedOnce::Again(word, grip)
+    }
+
+    // The same from a look at the word on.
+    #[inline(always)]
+    final fn change_some<P: Change>(
+        self,
+        party: &mut Party<F, Kept<F>, A>,
+        tries: u64,
+    ) -> TriedOnce<P::Row, MaybeShare<R, F, Q, M, A, B>, Self>
+        requires cell { party.old.seat.block ≡ Self.id self }
+        requires limit { (w : State) → P.attempt.ends party.old.seat.me.0.limit w ≡ P.attempt.ends (Self.key self).limit w }
+        requires quiet { party.old.seat.me.0 ≡ having_seen None party.old.seat.me.0 }
+        requires allowed { MayTry (values_of F.Yields (Self.key self).future.value) (Self.key self).limit 2 party.old.seat.id party.old.seat.me P.attempt }
+        requires shares { MayCount Self.gives (values_of F.Yields (Self.key self).future.value) (Self.key self).limit party.old.seat.id party.old.seat.me P.attempt }
+        ensures cell { party.new.seat.block ≡ party.old.seat.block }
+        ensures tried { HasTried (values_of F.Yields (Self.key self).future.value) (Self.key self).limit P.attempt result party.old.seat.me party.new.seat.me }
+        ensures missed { IfAgain result (λ w. HasMissed tries party.new.seat.me ⊎ IsUndecided (Self.key self).limit P.attempt w) }
+        ensures share { IfMade result (λ row m. HasLeft Self.gives (Self.id self) (Self.key self) (Self.value self) m (P.attempt.counts row) (P.attempt.lasts row)) (λ k. (Self.id k ≡ Self.id self) × (Self.value k ≡ Self.value self) × (Self.key k ≡ Self.key self)) }
+    {
+        match self.lent().observe::<P>(party) {
+            Ok(word) => self.attempt_some::<P>(party, word, tries),
+            Err(word) => TriedOnce::Ended(word, self),
+        }
+    }
+
+    // Tries a change from this word on, until it is made: what it found, and what it left or brought. An `Err` is the word that ended the attempt, and the grip.
+    #[cold]
+    #[inline(never)]
+    final fn attempt_again<P: Change, W: Wait + Copy>(
+        self,
+        rt: W,
+        party: &mut Party<F, Kept<F>, A>,
+        mut word: Word,
+    ) -> Result<(P::Row, MaybeShare<R, F, Q, M, A, B>), (Word, Self)>
+        requires cell { party.old.seat.block ≡ Self.id self }
+        requires limit { (w : State) → P.attempt.ends party.old.seat.me.0.limit w ≡ P.attempt.ends (Self.key self).limit w }
+        requires room { HasRoom word }
+        requires seen { (t : Option Tries) × Names word t × (party.old.seat.me.0 ≡ having_seen t party.old.seat.me.0) }
+        requires allowed { MayTry (values_of F.Yields (Self.key self).future.value) (Self.key self).limit 2 party.old.seat.id party.old.seat.me P.attempt }
+        requires shares { MayCount Self.gives (values_of F.Yields (Self.key self).future.value) (Self.key self).limit party.old.seat.id party.old.seat.me P.attempt }
+        ensures cell { party.new.seat.block ≡ party.old.seat.block }
+        ensures changed { IfOk result (λ r. HasChanged (values_of F.Yields (Self.key self).future.value) (Self.key self).limit P.attempt r.0 party.old.seat.me party.new.seat.me) }
+        ensures share { IfOk result (λ r. HasLeft Self.gives (Self.id self) (Self.key self) (Self.value self) r.1 (P.attempt.counts r.0) (P.attempt.lasts r.0)) }
+        ensures ended { IfErr result (λ r. HasEnded (values_of F.Yields (Self.key self).future.value) (Self.key self).limit P.attempt r.0 party.old.seat.me party.new.seat.me) }
+        ensures kept { IfErr result (λ r. (Self.id r.1 ≡ Self.id self) × (Self.value r.1 ≡ Self.value self) × (Self.key r.1 ≡ Self.key self)) }
+    {
+        let mut grip = self;
+        for _ in rt.forever() {
+            match grip.attempt_some::<P>(party, word, u64::MAX) {
+                TriedOnce::Made(row, maybe) => return Ok((row, maybe)),
+                TriedOnce::Ended(found, kept) => return Err((found, kept)),
+                TriedOnce::Again(found, kept) => {
+                    word = found;
+                    grip = kept;
+                }
+            }
+        }
+        unreachable!()
+    }
+
+    // Tries a change as `attempt_again` does, once before the loop.
+    #[inline(always)]
+    final fn attempt_from<P: Change, W: Wait + Copy>(
+        self,
+        rt: W,
+        party: &mut Party<F, Kept<F>, A>,
+        word: Word,
+    ) -> Result<(P::Row, MaybeShare<R, F, Q, M, A, B>), (Word, Self)>
+        requires cell { party.old.seat.block ≡ Self.id self }
+        requires limit { (w : State) → P.attempt.ends party.old.seat.me.0.limit w ≡ P.attempt.ends (Self.key self).limit w }
+        requires room { HasRoom word }
+        requires seen { (t : Option Tries) × Names word t × (party.old.seat.me.0 ≡ having_seen t party.old.seat.me.0) }
+        requires allowed { MayTry (values_of F.Yields (Self.key self).future.value) (Self.key self).limit 2 party.old.seat.id party.old.seat.me P.attempt }
+        requires shares { MayCount Self.gives (values_of F.Yields (Self.key self).future.value) (Self.key self).limit party.old.seat.id party.old.seat.me P.attempt }
+        ensures cell { party.new.seat.block ≡ party.old.seat.block }
+        ensures changed { IfOk result (λ r. HasChanged (values_of F.Yields (Self.key self).future.value) (Self.key self).limit P.attempt r.0 party.old.seat.me party.new.seat.me) }
+        ensures share { IfOk result (λ r. HasLeft Self.gives (Self.id self) (Self.key self) (Self.value self) r.1 (P.attempt.counts r.0) (P.attempt.lasts r.0)) }
+        ensures ended { IfErr result (λ r. HasEnded (values_of F.Yields (Self.key self).future.value) (Self.key self).limit P.attempt r.0 party.old.seat.me party.new.seat.me) }
+        ensures kept { IfErr result (λ r. (Self.id r.1 ≡ Self.id self) × (Self.value r.1 ≡ Self.value self) × (Self.key r.1 ≡ Self.key self)) }
+    {
+        match self.try_once::<P>(party, word) {
+            TriedOnce::Made(row, maybe) => Ok((row, maybe)),
+            TriedOnce::Ended(found, kept) => Err((found, kept)),
+            // The loop's answer comes by memory, so it is taken apart: the row of the first try then stays in a register.
+            TriedOnce::Again(found, kept) => match kept.attempt_again::<P, W>(rt, party, found) {
+                Ok((row, maybe)) => Ok((row, maybe)),
+                Err((found, kept)) => Err((found, kept)),
+            },
+        }
+    }
+
+    // Tries a change from a look at the word on.
+    #[inline(always)]
+    final fn attempt<P: Change, W: Wait + Copy>(
+        self,
+        rt: W,
+        party: &mut Party<F, Kept<F>, A>,
+    ) -> Result<(P::Row, MaybeShare<R, F, Q, M, A, B>), (Word, Self)>
+        requires cell { party.old.seat.block ≡ Self.id self }
+        requires limit { (w : State) → P.attempt.ends party.old.seat.me.0.limit w ≡ P.attempt.ends (Self.key self).limit w }
+        requires quiet { party.old.seat.me.0 ≡ having_seen None party.old.seat.me.0 }
+        requires allowed { MayTry (values_of F.Yields (Self.key self).future.value) (Self.key self).limit 2 party.old.seat.id party.old.seat.me P.attempt }
+        requires shares { MayCount Self.gives (values_of F.Yields (Self.key self).future.value) (Self.key self).limit party.old.seat.id party.old.seat.me P.attempt }
+        ensures cell { party.new.seat.block ≡ party.old.seat.block }
+        ensures changed { IfOk result (λ r. HasChanged (values_of F.Yields (Self.key self).future.value) (Self.key self).limit P.attempt r.0 party.old.seat.me party.new.seat.me) }
+        ensures share { IfOk result (λ r. HasLeft Self.gives (Self.id self) (Self.key self) (Self.value self) r.1 (P.attempt.counts r.0) (P.attempt.lasts r.0)) }
+        ensures ended { IfErr result (λ r. HasEnded (values_of F.Yields (Self.key self).future.value) (Self.key self).limit P.attempt r.0 party.old.seat.me party.new.seat.me) }
+        ensures kept { IfErr result (λ r. (Self.id r.1 ≡ Self.id self) × (Self.value r.1 ≡ Self.value self) × (Self.key r.1 ≡ Self.key self)) }
+    {
+        match self.lent().observe::<P>(party) {
+            Ok(word) => self.attempt_from::<P, W>(rt, party, word),
+            Err(word) => Err((word, self)),
+        }
+    }
+}
+
+impl<'a, R: Drop, F: Yields, Q: Drop, M: Drop, A: Drop, B: Allocator + Copy> Grip<R, F, Q, M, A, B>
+    for &'a Share<R, F, Q, M, A, B> {
+    ghost id = { λ lent. lent.now.block.id };
+
+    ghost key = { λ lent. lent.now.block.key };
+
+    ghost value = { λ lent. lent.now.block.value };
+
+    ghost gives = { false };
+
+    fn lent(&self) -> &Share<R, F, Q, M, A, B> {
+        *self
+    }
+
+    #[inline(always)]
+    fn try_once<P: Change>(
+        self,
+        party: &mut Party<F, Kept<F>, A>,
+        word: Word,
+    ) -> TriedOnce<P::Row, MaybeShare<R, F, Q, M, A, B>, Self> {
+        let Some(made) = P::next(word, self.cell().limit) else {
+            return match self.observe::<P>(party) {
+                Ok(found) => TriedOnce::Again(found, self),
+                Err(found) => TriedOnce::Ended(found, self),
+            };
+        };
+        let (found, maybe) = self.gain_at::<Attempting<P>>(
+            &mut party.seat,
+            word.bits(),
+            made.0.bits(),
+        );
+        if found == word.bits() {
+            return TriedOnce::Made(made.1, maybe);
+        }
+        maybe.none();
+        TriedOnce::Again(Word::from_bits(found), self)
+    }
+}
+
+impl<R: Drop, F: Yields, Q: Drop, M: Drop, A: Drop, B: Allocator + Copy> Grip<R, F, Q, M, A, B>
+    for Share<R, F, Q, M, A, B> {
+    ghost id = { λ share. share.block.id };
+
+    ghost key = { λ share. share.block.key };
+
+    ghost value = { λ share. share.block.value };
+
+    ghost gives = { true };
+
+    fn lent(&self) -> &Share<R, F, Q, M, A, B> {
+        self
+    }
+
+    #[inline(always)]
+    fn try_once<P: Change>(
+        self,
+        party: &mut Party<F, Kept<F>, A>,
+        word: Word,
+    ) -> TriedOnce<P::Row, MaybeShare<R, F, Q, M, A, B>, Self> {
+        let Some(made) = P::next(word, self.cell().limit) else {
+            return match self.observe::<P>(party) {
+                Ok(found) => TriedOnce::Again(found, self),
+                Err(found) => TriedOnce::Ended(found, self),
+            };
+        };
+        let (found, maybe) = self.part_at::<Attempting<P>>(
+            &mut party.seat,
+            word.bits(),
+            made.0.bits(),
+        );
+        if found == word.bits() {
+            return TriedOnce::Made(made.1, maybe);
+        }
+        TriedOnce::Again(Word::from_bits(found), maybe.share())
+    }
+}
 
 impl<R: Drop, F: Yields, Q: Drop, M: Drop, A: Drop, B: Allocator + Copy> Share<R, F, Q, M, A, B> {
     // Looks at the word, by a load, which shows a handle: the change is to be tried on it, or it is the error, and has ended the attempt.
@@ -44,193 +308,6 @@ impl<R: Drop, F: Yields, Q: Drop, M: Drop, A: Drop, B: Allocator + Copy> Share<R
             Err(word)
         } else {
             Ok(word)
-        }
-    }
-
-    // Tries a change once on this word, which the party has seen: by an exchange, or by a look at the word where the change cannot be made on this one.
-    #[inline(always)]
-    pub(crate) fn try_once<P: Change>(
-        &self,
-        party: &mut Party<F, Kept<F>, A>,
-        word: Word,
-    ) -> TriedOnce<P::Row, MaybeShare<R, F, Q, M, A, B>, ()>
-        requires cell { IsOf self.now party.old }
-        requires limit { (w : State) → P.attempt.ends party.old.seat.me.0.limit w ≡ P.attempt.ends (limit_in self.now) w }
-        requires room { HasRoom word }
-        requires seen { (t : Option Tries) × Names word t × (party.old.seat.me.0 ≡ having_seen t party.old.seat.me.0) }
-        requires allowed { MayTry (values_in self.now) (limit_in self.now) 2 party.old.seat.id party.old.seat.me P.attempt }
-        requires shares { MayBring (values_in self.now) (limit_in self.now) party.old.seat.id party.old.seat.me P.attempt }
-        ensures seat { (party.new.seat.block ≡ party.old.seat.block) × (party.new.seat.id ≡ party.old.seat.id) }
-        ensures tried { HasTried (values_in self.now) (limit_in self.now) P.attempt result party.old.seat.me party.new.seat.me }
-        ensures again { IfAgain result (λ w. TriesOn (limit_in self.now) P.attempt word w party.old.seat.me party.new.seat.me) }
-        ensures share { IfMade result (λ row m. Leaves self.now m (P.attempt.counts row)) (λ k. ⊤) }
-    {
-        let Some(made) = P::next(word, self.cell().limit) else {
-            return match self.observe::<P>(party) {
-                Ok(found) => TriedOnce::Again(found, ()),
-                Err(found) => TriedOnce::Ended(found, ()),
-            };
-        };
-        let (found, maybe) = self.gain_at::<Attempting<P>>(
-            &mut party.seat,
-            word.bits(),
-            made.0.bits(),
-        );
-        if found == word.bits() {
-            return TriedOnce::Made(made.1, maybe);
-        }
-        maybe.none();
-        TriedOnce::Again(Word::from_bits(found), ())
-    }
-
-    // Tries once a change that may give this share up, on this word, which the party has seen.
-    #[inline(always)]
-    pub(crate) fn try_giving<P: Change>(
-        self,
-        party: &mut Party<F, Kept<F>, A>,
-        word: Word,
-    ) -> TriedOnce<P::Row, MaybeShare<R, F, Q, M, A, B>, Self>
-        requires cell { IsOf self party.old }
-        requires limit { (w : State) → P.attempt.ends party.old.seat.me.0.limit w ≡ P.attempt.ends (limit_in self) w }
-        requires room { HasRoom word }
-        requires seen { (t : Option Tries) × Names word t × (party.old.seat.me.0 ≡ having_seen t party.old.seat.me.0) }
-        requires allowed { MayTry (values_in self) (limit_in self) 2 party.old.seat.id party.old.seat.me P.attempt }
-        requires shares { MayGive (values_in self) (limit_in self) party.old.seat.id party.old.seat.me P.attempt }
-        ensures seat { (party.new.seat.block ≡ party.old.seat.block) × (party.new.seat.id ≡ party.old.seat.id) }
-        ensures tried { HasTried (values_in self) (limit_in self) P.attempt result party.old.seat.me party.new.seat.me }
-        ensures again { IfAgain result (λ w. TriesOn (limit_in self) P.attempt word w party.old.seat.me party.new.seat.me) }
-        ensures share { IfMade result (λ row m. LeavesBy self m (not (P.attempt.counts row)) (P.attempt.lasts row)) (λ k. IsSame self k) }
-    {
-        let Some(made) = P::next(word, self.cell().limit) else {
-            return match self.observe::<P>(party) {
-                Ok(found) => TriedOnce::Again(found, self),
-                Err(found) => TriedOnce::Ended(found, self),
-            };
-        };
-        let (found, maybe) = self.part_at::<Attempting<P>>(
-            &mut party.seat,
-            word.bits(),
-            made.0.bits(),
-        );
-        if found == word.bits() {
-            return TriedOnce::Made(made.1, maybe);
-        }
-        TriedOnce::Again(Word::from_bits(found), maybe.share())
-    }
-
-    // Tries a change from this word on, by at most this many tries: what it found, and the share that it brought, if it did, or the word on which it is to be tried again. Then each try has found another word than it was tried on, unless the last word leaves the change undecided. So after a look, one try is enough where no other party writes. It cannot wait.
-    #[inline(always)]
-    pub(crate) fn attempt_some<P: Change>(
-        &self,
-        party: &mut Party<F, Kept<F>, A>,
-        mut word: Word,
-        tries: u64,
-    ) -> TriedOnce<P::Row, MaybeShare<R, F, Q, M, A, B>, ()>
-        requires cell { IsOf self.now party.old }
-        requires limit { (w : State) → P.attempt.ends party.old.seat.me.0.limit w ≡ P.attempt.ends (limit_in self.now) w }
-        requires room { HasRoom word }
-        requires seen { (t : Option Tries) × Names word t × (party.old.seat.me.0 ≡ having_seen t party.old.seat.me.0) }
-        requires allowed { MayTry (values_in self.now) (limit_in self.now) 2 party.old.seat.id party.old.seat.me P.attempt }
-        requires shares { MayBring (values_in self.now) (limit_in self.now) party.old.seat.id party.old.seat.me P.attempt }
-        ensures seat { (party.new.seat.block ≡ party.old.seat.block) × (party.new.seat.id ≡ party.old.seat.id) }
-        ensures tried { HasTried (values_in self.now) (limit_in self.now) P.attempt result party.old.seat.me party.new.seat.me }
-        ensures looked { IfAgain result (λ w. HasLooked tries party.old.seat.me party.new.seat.me ⊎ IsUndecided (limit_in self.now) P.attempt w) }
-        ensures share { IfMade result (λ row m. Leaves self.now m (P.attempt.counts row)) (λ k. ⊤) }
-    {
-        for round in 0..tries {
-            match self.try_once::<P>(party, word) {
-                TriedOnce::Made(row, maybe) => return TriedOnce::Made(row, maybe),
-                TriedOnce::Ended(found, ()) => return TriedOnce::Ended(found, ()),
-                TriedOnce::Again(found, ()) => {
-                    if found.bits() == word.bits() {
-                        return TriedOnce::Again(found, ());
-                    }
-                    word = found;
-                }
-            }
-        }
-        TriedOnce::Again(word, ())
-    }
-
-    // The same from a look at the word on.
-    #[inline(always)]
-    pub(crate) fn change_some<P: Change>(
-        &self,
-        party: &mut Party<F, Kept<F>, A>,
-        tries: u64,
-    ) -> TriedOnce<P::Row, MaybeShare<R, F, Q, M, A, B>, ()>
-        requires cell { IsOf self.now party.old }
-        requires limit { (w : State) → P.attempt.ends party.old.seat.me.0.limit w ≡ P.attempt.ends (limit_in self.now) w }
-        requires quiet { party.old.seat.me.0 ≡ having_seen None party.old.seat.me.0 }
-        requires allowed { MayTry (values_in self.now) (limit_in self.now) 2 party.old.seat.id party.old.seat.me P.attempt }
-        requires shares { MayBring (values_in self.now) (limit_in self.now) party.old.seat.id party.old.seat.me P.attempt }
-        ensures cell { party.new.seat.block ≡ party.old.seat.block }
-        ensures tried { HasTried (values_in self.now) (limit_in self.now) P.attempt result party.old.seat.me party.new.seat.me }
-        ensures missed { IfAgain result (λ w. HasMissed tries party.new.seat.me ⊎ IsUndecided (limit_in self.now) P.attempt w) }
-        ensures share { IfMade result (λ row m. Leaves self.now m (P.attempt.counts row)) (λ k. ⊤) }
-    {
-        match self.observe::<P>(party) {
-            Ok(word) => self.attempt_some::<P>(party, word, tries),
-            Err(word) => TriedOnce::Ended(word, ()),
-        }
-    }
-
-    // Tries a change that may give this share up, from this word on, as `attempt_some` does: what it found, and the share, if it is left. A word that ended the attempt, or on which it is to be tried again, comes with the share.
-    #[inline(always)]
-    pub(crate) fn give_some<P: Change>(
-        self,
-        party: &mut Party<F, Kept<F>, A>,
-        mut word: Word,
-        tries: u64,
-    ) -> TriedOnce<P::Row, MaybeShare<R, F, Q, M, A, B>, Self>
-        requires cell { IsOf self party.old }
-        requires limit { (w : State) → P.attempt.ends party.old.seat.me.0.limit w ≡ P.attempt.ends (limit_in self) w }
-        requires room { HasRoom word }
-        requires seen { (t : Option Tries) × Names word t × (party.old.seat.me.0 ≡ having_seen t party.old.seat.me.0) }
-        requires allowed { MayTry (values_in self) (limit_in self) 2 party.old.seat.id party.old.seat.me P.attempt }
-        requires shares { MayGive (values_in self) (limit_in self) party.old.seat.id party.old.seat.me P.attempt }
-        ensures seat { (party.new.seat.block ≡ party.old.seat.block) × (party.new.seat.id ≡ party.old.seat.id) }
-        ensures tried { HasTried (values_in self) (limit_in self) P.attempt result party.old.seat.me party.new.seat.me }
-        ensures looked { IfAgain result (λ w. HasLooked tries party.old.seat.me party.new.seat.me ⊎ IsUndecided (limit_in self) P.attempt w) }
-        ensures share { IfMade result (λ row m. LeavesBy self m (not (P.attempt.counts row)) (P.attempt.lasts row)) (λ k. IsSame self k) }
-    {
-        let mut share = self;
-        for round in 0..tries {
-            match share.try_giving::<P>(party, word) {
-                TriedOnce::Made(row, maybe) => return TriedOnce::Made(row, maybe),
-                TriedOnce::Ended(found, kept) => return TriedOnce::Ended(found, kept),
-                TriedOnce::Again(found, kept) => {
-                    if found.bits() == word.bits() {
-                        return TriedOnce::Again(found, kept);
-                    }
-                    word = found;
-                    share = kept;
-                }
-            }
-        }
-        TriedOnce::Again(word, share)
-    }
-
-    // The same from a look at the word on.
-    #[inline(always)]
-    pub(crate) fn give_change_some<P: Change>(
-        self,
-        party: &mut Party<F, Kept<F>, A>,
-        tries: u64,
-    ) -> TriedOnce<P::Row, MaybeShare<R, F, Q, M, A, B>, Self>
-        requires cell { IsOf self party.old }
-        requires limit { (w : State) → P.attempt.ends party.old.seat.me.0.limit w ≡ P.attempt.ends (limit_in self) w }
-        requires quiet { party.old.seat.me.0 ≡ having_seen None party.old.seat.me.0 }
-        requires allowed { MayTry (values_in self) (limit_in self) 2 party.old.seat.id party.old.seat.me P.attempt }
-        requires shares { MayGive (values_in self) (limit_in self) party.old.seat.id party.old.seat.me P.attempt }
-        ensures cell { party.new.seat.block ≡ party.old.seat.block }
-        ensures tried { HasTried (values_in self) (limit_in self) P.attempt result party.old.seat.me party.new.seat.me }
-        ensures missed { IfAgain result (λ w. HasMissed tries party.new.seat.me ⊎ IsUndecided (limit_in self) P.attempt w) }
-        ensures share { IfMade result (λ row m. LeavesBy self m (not (P.attempt.counts row)) (P.attempt.lasts row)) (λ k. IsSame self k) }
-    {
-        match self.observe::<P>(party) {
-            Ok(word) => self.give_some::<P>(party, word, tries),
-            Err(word) => TriedOnce::Ended(word, self),
         }
     }
 
@@ -257,8 +334,8 @@ impl<R: Drop, F: Yields, Q: Drop, M: Drop, A: Drop, B: Allocator + Copy> Share<R
                 maybe.none();
                 Some(Ok(row))
             }
-            TriedOnce::Ended(word, ()) => Some(Err(word)),
-            TriedOnce::Again(_, ()) => None,
+            TriedOnce::Ended(word, _) => Some(Err(word)),
+            TriedOnce::Again(_, _) => None,
         }
     }
 
@@ -375,82 +452,6 @@ impl<R: Wait + Drop + Copy, F: Yields, Q: Drop, M: Drop, A: Drop, B: Allocator +
     A,
     B,
 > {
-    // Tries a change from this word on, until it is made: what it found, and the share that it brought, if it did. An `Err` is the word that ended the attempt.
-    #[cold]
-    #[inline(never)]
-    pub(crate) fn attempt_again<P: Change>(
-        &self,
-        party: &mut Party<F, Kept<F>, A>,
-        mut word: Word,
-    ) -> Result<(P::Row, MaybeShare<R, F, Q, M, A, B>), Word>
-        requires cell { IsOf self.now party.old }
-        requires limit { (w : State) → P.attempt.ends party.old.seat.me.0.limit w ≡ P.attempt.ends (limit_in self.now) w }
-        requires room { HasRoom word }
-        requires seen { (t : Option Tries) × Names word t × (party.old.seat.me.0 ≡ having_seen t party.old.seat.me.0) }
-        requires allowed { MayTry (values_in self.now) (limit_in self.now) 2 party.old.seat.id party.old.seat.me P.attempt }
-        requires shares { MayBring (values_in self.now) (limit_in self.now) party.old.seat.id party.old.seat.me P.attempt }
-        ensures cell { party.new.seat.block ≡ party.old.seat.block }
-        ensures changed { IfOk result (λ r. HasChanged (values_in self.now) (limit_in self.now) P.attempt r.0 party.old.seat.me party.new.seat.me) }
-        ensures share { IfOk result (λ r. Leaves self.now r.1 (P.attempt.counts r.0)) }
-        ensures ended { IfErr result (λ w. HasEnded (values_in self.now) (limit_in self.now) P.attempt w party.old.seat.me party.new.seat.me) }
-    {
-        for _ in self.cell().rt.forever() {
-            match self.attempt_some::<P>(party, word, u64::MAX) {
-                TriedOnce::Made(row, maybe) => return Ok((row, maybe)),
-                TriedOnce::Ended(found, ()) => return Err(found),
-                TriedOnce::Again(found, ()) => word = found,
-            }
-        }
-        unreachable!()
-    }
-
-    // Tries a change as `attempt_again` does, once before the loop.
-    #[inline(always)]
-    pub(crate) fn attempt_from<P: Change>(
-        &self,
-        party: &mut Party<F, Kept<F>, A>,
-        word: Word,
-    ) -> Result<(P::Row, MaybeShare<R, F, Q, M, A, B>), Word>
-        requires cell { IsOf self.now party.old }
-        requires limit { (w : State) → P.attempt.ends party.old.seat.me.0.limit w ≡ P.attempt.ends (limit_in self.now) w }
-        requires room { HasRoom word }
-        requires seen { (t : Option Tries) × Names word t × (party.old.seat.me.0 ≡ having_seen t party.old.seat.me.0) }
-        requires allowed { MayTry (values_in self.now) (limit_in self.now) 2 party.old.seat.id party.old.seat.me P.attempt }
-        requires shares { MayBring (values_in self.now) (limit_in self.now) party.old.seat.id party.old.seat.me P.attempt }
-        ensures cell { party.new.seat.block ≡ party.old.seat.block }
-        ensures changed { IfOk result (λ r. HasChanged (values_in self.now) (limit_in self.now) P.attempt r.0 party.old.seat.me party.new.seat.me) }
-        ensures share { IfOk result (λ r. Leaves self.now r.1 (P.attempt.counts r.0)) }
-        ensures ended { IfErr result (λ w. HasEnded (values_in self.now) (limit_in self.now) P.attempt w party.old.seat.me party.new.seat.me) }
-    {
-        match self.try_once::<P>(party, word) {
-            TriedOnce::Made(row, maybe) => Ok((row, maybe)),
-            TriedOnce::Ended(found, ()) => Err(found),
-            TriedOnce::Again(found, ()) => self.attempt_again::<P>(party, found),
-        }
-    }
-
-    // Tries a change from a look at the word on.
-    #[inline(always)]
-    pub(crate) fn attempt<P: Change>(
-        &self,
-        party: &mut Party<F, Kept<F>, A>,
-    ) -> Result<(P::Row, MaybeShare<R, F, Q, M, A, B>), Word>
-        requires cell { IsOf self.now party.old }
-        requires limit { (w : State) → P.attempt.ends party.old.seat.me.0.limit w ≡ P.attempt.ends (limit_in self.now) w }
-        requires quiet { party.old.seat.me.0 ≡ having_seen None party.old.seat.me.0 }
-        requires allowed { MayTry (values_in self.now) (limit_in self.now) 2 party.old.seat.id party.old.seat.me P.attempt }
-        requires shares { MayBring (values_in self.now) (limit_in self.now) party.old.seat.id party.old.seat.me P.attempt }
-        ensures cell { party.new.seat.block ≡ party.old.seat.block }
-        ensures changed { IfOk result (λ r. HasChanged (values_in self.now) (limit_in self.now) P.attempt r.0 party.old.seat.me party.new.seat.me) }
-        ensures share { IfOk result (λ r. Leaves self.now r.1 (P.attempt.counts r.0)) }
-        ensures ended { IfErr result (λ w. HasEnded (values_in self.now) (limit_in self.now) P.attempt w party.old.seat.me party.new.seat.me) }
-    {
-        match self.observe::<P>(party) {
-            Ok(word) => self.attempt_from::<P>(party, word),
-            Err(word) => Err(word),
-        }
-    }
-
     // Tries a change that brings no share, from a look at the word on.
     #[inline(always)]
     pub(crate) fn change<P: Change>(&self, party: &mut Party<F, Kept<F>, A>) -> Result<P::Row, Word>
@@ -464,101 +465,12 @@ impl<R: Wait + Drop + Copy, F: Yields, Q: Drop, M: Drop, A: Drop, B: Allocator +
         ensures changed { IfOk result (λ row. HasChanged (values_in self.now) (limit_in self.now) P.attempt row party.old.seat.me party.new.seat.me) }
         ensures ended { IfErr result (λ w. HasEnded (values_in self.now) (limit_in self.now) P.attempt w party.old.seat.me party.new.seat.me) }
     {
-        match self.attempt::<P>(party) {
+        match self.attempt::<P, R>(self.cell().rt, party) {
             Ok((row, maybe)) => {
                 maybe.none();
                 Ok(row)
             }
-            Err(word) => Err(word),
-        }
-    }
-
-    // Tries a change that may give this share up, from this word on: what it found, and the share, if it is left. An `Err` is the word that ended the attempt, and the share.
-    #[cold]
-    #[inline(never)]
-    pub(crate) fn give_again<P: Change>(
-        self,
-        party: &mut Party<F, Kept<F>, A>,
-        mut word: Word,
-    ) -> Result<(P::Row, MaybeShare<R, F, Q, M, A, B>), (Word, Self)>
-        requires cell { IsOf self party.old }
-        requires limit { (w : State) → P.attempt.ends party.old.seat.me.0.limit w ≡ P.attempt.ends (limit_in self) w }
-        requires room { HasRoom word }
-        requires seen { (t : Option Tries) × Names word t × (party.old.seat.me.0 ≡ having_seen t party.old.seat.me.0) }
-        requires allowed { MayTry (values_in self) (limit_in self) 2 party.old.seat.id party.old.seat.me P.attempt }
-        requires shares { MayGive (values_in self) (limit_in self) party.old.seat.id party.old.seat.me P.attempt }
-        ensures cell { party.new.seat.block ≡ party.old.seat.block }
-        ensures changed { IfOk result (λ r. HasChanged (values_in self) (limit_in self) P.attempt r.0 party.old.seat.me party.new.seat.me) }
-        ensures share { IfOk result (λ r. LeavesBy self r.1 (not (P.attempt.counts r.0)) (P.attempt.lasts r.0)) }
-        ensures ended { IfErr result (λ r. HasEnded (values_in self) (limit_in self) P.attempt r.0 party.old.seat.me party.new.seat.me) }
-        ensures kept { IfErr result (λ r. IsSame self r.1) }
-    {
-        let rt = self.cell().rt;
-        let mut share = self;
-        for _ in rt.forever() {
-            match share.give_some::<P>(party, word, u64::MAX) {
-                TriedOnce::Made(row, maybe) => return Ok((row, maybe)),
-                TriedOnce::Ended(found, kept) => return Err((found, kept)),
-                TriedOnce::Again(found, kept) => {
-                    word = found;
-                    share = kept;
-                }
-            }
-        }
-        unreachable!()
-    }
-
-    // Tries it once before the loop.
-    #[inline(always)]
-    pub(crate) fn give_from<P: Change>(
-        self,
-        party: &mut Party<F, Kept<F>, A>,
-        word: Word,
-    ) -> Result<(P::Row, MaybeShare<R, F, Q, M, A, B>), (Word, Self)>
-        requires cell { IsOf self party.old }
-        requires limit { (w : State) → P.attempt.ends party.old.seat.me.0.limit w ≡ P.attempt.ends (limit_in self) w }
-        requires room { HasRoom word }
-        requires seen { (t : Option Tries) × Names word t × (party.old.seat.me.0 ≡ having_seen t party.old.seat.me.0) }
-        requires allowed { MayTry (values_in self) (limit_in self) 2 party.old.seat.id party.old.seat.me P.attempt }
-        requires shares { MayGive (values_in self) (limit_in self) party.old.seat.id party.old.seat.me P.attempt }
-        ensures cell { party.new.seat.block ≡ party.old.seat.block }
-        ensures changed { IfOk result (λ r. HasChanged (values_in self) (limit_in self) P.attempt r.0 party.old.seat.me party.new.seat.me) }
-        ensures share { IfOk result (λ r. LeavesBy self r.1 (not (P.attempt.counts r.0)) (P.attempt.lasts r.0)) }
-        ensures ended { IfErr result (λ r. HasEnded (values_in self) (limit_in self) P.attempt r.0 party.old.seat.me party.new.seat.me) }
-        ensures kept { IfErr result (λ r. IsSame self r.1) }
-    {
-        match self.try_giving::<P>(party, word) {
-            TriedOnce::Made(row, maybe) => Ok((row, maybe)),
-            TriedOnce::Ended(found, kept) => Err((found, kept)),
-            // The loop's answer comes by memory, so it is taken apart: the row of the first try then stays in a register.
-            TriedOnce::Again(found, kept) => match kept.give_again::<P>(party, found) {
-                Ok((row, maybe)) => Ok((row, maybe)),
-                Err((found, kept)) => Err((found, kept)),
-            },
-        }
-    }
-
-    // Tries a change that may give this share up, and that no word ends, from a look at the word on.
-    #[inline(always)]
-    pub(crate) fn give_change<P: Change>(
-        self,
-        party: &mut Party<F, Kept<F>, A>,
-    ) -> (P::Row, MaybeShare<R, F, Q, M, A, B>)
-        requires cell { IsOf self party.old }
-        requires endless { (limit : _) (w : State) → P.attempt.ends limit w ≡ false }
-        requires quiet { party.old.seat.me.0 ≡ having_seen None party.old.seat.me.0 }
-        requires allowed { MayTry (values_in self) (limit_in self) 2 party.old.seat.id party.old.seat.me P.attempt }
-        requires shares { MayGive (values_in self) (limit_in self) party.old.seat.id party.old.seat.me P.attempt }
-        ensures cell { party.new.seat.block ≡ party.old.seat.block }
-        ensures changed { HasChanged (values_in self) (limit_in self) P.attempt result.0 party.old.seat.me party.new.seat.me }
-        ensures share { LeavesBy self result.1 (not (P.attempt.counts result.0)) (P.attempt.lasts result.0) }
-    {
-        match self.observe::<P>(party) {
-            Ok(word) => match self.give_from::<P>(party, word) {
-                Ok(made) => made,
-                Err(_) => unreachable!(),
-            },
-            Err(_) => unreachable!(),
+            Err((word, _)) => Err(word),
         }
     }
 }

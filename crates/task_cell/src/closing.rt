@@ -26,6 +26,7 @@ ghost use Rattle.task_cell.specs.RunPaths.{DiscardStart};
 ghost use Rattle.task_cell.specs.TaskPaths.{Cancels, Notice, CancelPath, Detaches, GivesTaskUp, DetachPath, UnclaimedPath};
 ghost use Rattle.task_cell.specs.Woken.{WokeStored};
 
+use crate::attempt::Grip;
 use crate::cell::{MaybeShare, Party, Share};
 use crate::run::DroppingOutput;
 use crate::runnable::Runnable;
@@ -155,7 +156,7 @@ impl<R: Wait + Drop + Copy, F: Yields, Q: Drop, M: Drop, A: Wake, B: Allocator +
         ensures path { (n : ℕ) → Stands (as_task n) party.old → Cancels n party.old party.new (first result) }
         ensures share { IfSome result (λ closed. Leaves self.now closed.1 (brings_share closed.0)) }
     {
-        match self.attempt::<Cancelling>(party) {
+        match self.attempt::<Cancelling, R>(self.cell().rt, party) {
             Ok(made) => Some(made),
             Err(_) => None,
         }
@@ -223,8 +224,8 @@ impl<R: Drop, F: Yields, Q: Drop, M: Drop, A: Drop, B: Allocator + Copy> Share<R
     {
         match self.change_some::<Cancelling>(party, u64::MAX) {
             TriedOnce::Made(found, maybe) => Some(Some((found, maybe))),
-            TriedOnce::Ended(_, ()) => Some(None),
-            TriedOnce::Again(_, ()) => None,
+            TriedOnce::Ended(_, _) => Some(None),
+            TriedOnce::Again(_, _) => None,
         }
     }
 
@@ -274,7 +275,7 @@ impl<R: Drop, F: Yields, Q: Drop, M: Drop, A: Drop, B: Allocator + Copy> Share<R
         ensures kept { IfErr result (λ kept. IsSame self kept) }
         ensures missed { IfErr result (λ _. HasMissed (2 ^ 64 - 1) party.new.seat.me) }
     {
-        match self.give_change_some::<Detaching>(party, u64::MAX) {
+        match self.change_some::<Detaching>(party, u64::MAX) {
             TriedOnce::Made(found, maybe) => Ok((found, maybe)),
             TriedOnce::Ended(_, kept) => Err(kept),
             TriedOnce::Again(_, kept) => Err(kept),
@@ -309,7 +310,11 @@ impl<R: Wait + Drop + Copy, F: Yields, Q: Drop, M: Drop, A: Drop, B: Allocator +
         ensures path { Detaches (values_in self) party.old party.new result.0 }
         ensures share { LeavesBy self result.1 (not (ends_task result.0)) (ends_last result.0) }
     {
-        self.give_change::<Detaching>(party)
+        let rt = self.cell().rt;
+        match self.attempt::<Detaching, R>(rt, party) {
+            Ok(made) => made,
+            Err(_) => unreachable!(),
+        }
     }
 }
 

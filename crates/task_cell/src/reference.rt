@@ -23,6 +23,7 @@ ghost use Rattle.task_cell.specs.RunCalls.{GivesUp, Releases, Rests};
 ghost use Rattle.task_cell.specs.WakerPaths.{Gains, GainPath, DropsWaker, WakerDropPath};
 ghost use Rattle.task_cell.specs.Woken.{WokeStored};
 
+use crate::attempt::Grip;
 use crate::cell::{EndedCall, MaybeShare, Party, Share};
 use crate::runnable::Runnable;
 use crate::share::Ledger;
@@ -103,7 +104,7 @@ impl<R: Wait + Drop + Copy, F: Yields, Q: Drop, M: Drop, A: Drop, B: Allocator +
         ensures path { Gains (limit_in self.now) party.old party.new (second result) }
         ensures share { IfSome result (λ gained. cell_of gained.0 ≡ cell_of self.now) }
     {
-        match self.attempt_from::<Gaining>(party, word) {
+        match self.attempt_from::<Gaining, R>(self.cell().rt, party, word) {
             Ok((_, maybe)) => {
                 let gained = self.split::<Parting>(party);
                 Some((maybe.share(), gained))
@@ -148,8 +149,8 @@ impl<R: Drop, F: Yields, Q: Drop, M: Drop, A: Drop, B: Allocator + Copy> Share<R
                 let Party { seat: _ } = party;
                 Ok(Ok((maybe.share(), gained)))
             }
-            TriedOnce::Ended(_, ()) => Ok(Err(party)),
-            TriedOnce::Again(_, ()) => Err(party),
+            TriedOnce::Ended(_, _) => Ok(Err(party)),
+            TriedOnce::Again(_, _) => Err(party),
         }
     }
 

@@ -27,6 +27,7 @@ ghost use Rattle.task_cell.specs.RunPaths.{RunPath};
 ghost use Rattle.task_cell.specs.Starts.{TakesUp};
 ghost use Rattle.task_cell.specs.Woken.{WokeStored};
 
+use crate::attempt::Grip;
 use crate::cell::{MaybeShare, Party, Share, WakerSeat};
 use crate::runnable::Runnable;
 use crate::waker::TaskWaker;
@@ -406,7 +407,8 @@ impl<R: Wait + Drop + Copy, F: Yields, Q: Drop, M: Drop, A: Drop, B: Allocator +
         ensures share { IfOk result (λ r. Leaves self r.1 (not (ends_run r.0))) }
         ensures kept { IfErr result (λ share. cell_of share ≡ cell_of self) }
     {
-        match self.give_from::<EndingPending>(party, word) {
+        let rt = self.cell().rt;
+        match self.attempt_from::<EndingPending, R>(rt, party, word) {
             Ok(made) => Ok(made),
             Err((_, share)) => Err(share),
         }
@@ -445,8 +447,8 @@ impl<R: Drop, F: Yields, Q: Drop, M: Drop, A: Drop, B: Allocator + Copy> Share<R
                 maybe.none();
                 Some(true)
             }
-            TriedOnce::Ended(_, ()) => Some(false),
-            TriedOnce::Again(_, ()) => None,
+            TriedOnce::Ended(_, _) => Some(false),
+            TriedOnce::Again(_, _) => None,
         }
     }
 
@@ -517,8 +519,8 @@ impl<R: Drop, F: Yields, Q: Drop, M: Drop, A: Drop, B: Allocator + Copy> Share<R
                 maybe.none();
                 Some(found)
             }
-            TriedOnce::Ended(_, ()) => unreachable!(),
-            TriedOnce::Again(_, ()) => None,
+            TriedOnce::Ended(_, _) => unreachable!(),
+            TriedOnce::Again(_, _) => None,
         }
     }
 
@@ -537,7 +539,7 @@ impl<R: Drop, F: Yields, Q: Drop, M: Drop, A: Drop, B: Allocator + Copy> Share<R
         ensures left { IfErr result (λ share. IsSame self share) }
         ensures missed { IfErr result (λ _. HasMissed (2 ^ 64 - 2) party.new.seat.me) }
     {
-        match self.give_some::<EndingPending>(party, word, u64::MAX) {
+        match self.attempt_some::<EndingPending>(party, word, u64::MAX) {
             TriedOnce::Made(end, maybe) => Ok(Ok((end, maybe))),
             TriedOnce::Ended(_, share) => Ok(Err(share)),
             TriedOnce::Again(_, share) => Err(share),

@@ -18,6 +18,7 @@ ghost use Rattle.task_cell.specs.Calls.{Sees, Stands, limit_of, second, Did, IsN
 ghost use Rattle.task_cell.specs.Handed.{HandedOver};
 ghost use Rattle.task_cell.specs.WakerPaths.{TaskWakePath, WakesTask};
 
+use crate::attempt::Grip;
 use crate::cell::{MaybeShare, Party, Share};
 use crate::runnable::Runnable;
 use crate::share::Ledger;
@@ -150,8 +151,8 @@ impl<R: Drop, F: Yields, Q: Drop, M: Drop, A: Drop, B: Allocator + Copy> Share<R
                 let woken = self.deliverer_of(&mut party, found, maybe);
                 (party, Ok(woken))
             }
-            TriedOnce::Ended(_, ()) => (party, Ok(None)),
-            TriedOnce::Again(found, ()) => (party, Err(found)),
+            TriedOnce::Ended(_, _) => (party, Ok(None)),
+            TriedOnce::Again(found, _) => (party, Err(found)),
         }
     }
 
@@ -190,8 +191,8 @@ impl<R: Drop, F: Yields, Q: Drop, M: Drop, A: Drop, B: Allocator + Copy> Share<R
                 let made = self.deliverer_of(&mut party, found, maybe);
                 Ok(self.woken(party, made))
             }
-            TriedOnce::Ended(_, ()) => Ok(Err(party)),
-            TriedOnce::Again(_, ()) => Err(party),
+            TriedOnce::Ended(_, _) => Ok(Err(party)),
+            TriedOnce::Again(_, _) => Err(party),
         }
     }
 
@@ -260,7 +261,7 @@ impl<R: Wait + Drop + Copy, F: Yields, Q: Drop, M: Drop, A: Drop, B: Allocator +
         ensures path { (p : _) → Stands as_lent p → Sees word p party.old → WakesTask p party.new (second result) }
         ensures share { IfSome result (λ woken. cell_of woken.0 ≡ cell_of self.now) }
     {
-        match self.attempt_again::<WakingTask>(party, word) {
+        match self.attempt_again::<WakingTask, R>(self.cell().rt, party, word) {
             Ok(made) => self.deliverer_of(party, made.0, made.1),
             Err(_) => None,
         }

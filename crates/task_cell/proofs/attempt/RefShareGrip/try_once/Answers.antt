@@ -1,6 +1,6 @@
 use Rattle.task_cell.proofs.Vocabulary.{inl, sym, refl, ap, ◌∙◌, subst, number_of}
 use Rattle.task_cell.proofs.Attempts.{answered, changed_by, counts_made, counts_missed, seeing_first, seeing_next, found_next, other_word, other_or_undecided, may_exchange, may_more}
-use Rattle.task_cell.proofs.cell.Share.try_once.Goals as goal
+use Rattle.task_cell.proofs.attempt.RefShareGrip.try_once.Goals as goal
 use Rattle.task_core.specs.Word.{HasRoom}
 
 pub observe-requires-clause-seen : goal.observe-requires-clause-seen
