@@ -4,7 +4,6 @@ pub mod Opening
 pub mod Counting
 pub mod Moving
 pub mod Holds
-pub mod Keeping
 pub mod Lending
 pub mod Sent
 pub mod Beginning

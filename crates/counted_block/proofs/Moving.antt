@@ -167,9 +167,11 @@ module _ {M : Type 1} {𝓤 : Ura M} (𝓛 : Logic 𝓤) (R Q : RattleType) {V :
     kept_where counts lasts n = fsep (fact (0 < out n)) (parts_if (not (counts n)) (lasts n) z)
 
     -- maybe one less, which the caller had; if it was the last, the caller has the last share
-    pub ends_one : (counts lasts : ℕ → Bool) → Less holds out id me.0 f counts lasts → A.inv J ∗ ⟦ parts z ⟧ ∗ ⟦ seat_owns R Q z cv.code id me ⟧ ⊢ asks 𝓛 (block_ptr b o) f always
+    pub ends_one : (counts lasts : ℕ → Bool) → Less holds out id me.0 f counts lasts → A.inv J ∗ ⟦ parts z ⟧ ∗ ⟦ seat_owns R Q z cv.code id me ⟧ ⊢ asks 𝓛 (block_ptr b o)
+        f always
         (after (kept_where counts lasts))
-    ends_one counts lasts less = moved (parts z) (kept_where counts lasts) (counting.parts_closed 𝓛 R Q cv holds out P z) (λ s h so at. let n : ℕ = word_of s in qed 𝓛 (‵ (Counts true n h) ∷ ‵ (parts z) ∷ []) ∵
+    ends_one counts lasts less = moved (parts z) (kept_where counts lasts) (counting.parts_closed 𝓛 R Q cv holds out P z) (λ s h so at. let n : ℕ = word_of s in
+        qed 𝓛 (‵ (Counts true n h) ∷ ‵ (parts z) ∷ []) ∵
         use2 𝓛 (given (0 < out n) (‵ (Counts true n h) ⊛ ‵ (parts z))) (counting.live_parts 𝓛 R Q cv holds out P z n h) $ learn ! (λ live.
         use1 𝓛 (‵ (Counts true (f n) h) ⊛ ‵ (parts_if (not (counts n)) (lasts n) z)) (counting.less_by 𝓛 R Q cv holds out P z n (f n) h (counts n) (lasts n) (less s so at)) $
         split ! $ frame ! $ nothing ! $ fpack ! (0 < out n) (λ _. ftrue) live $ fjoin ! $ done !))
@@ -183,7 +185,8 @@ module _ {M : Type 1} {𝓤 : Ura M} (𝓛 : Logic 𝓤) (R Q : RattleType) {V :
 
     -- the last share becomes a share again
     pub revives : ((n : ℕ) → out (f n) ≡ 1) → A.inv J ∗ ⟦ last_parts z ⟧ ∗ ⟦ seat_owns R Q z cv.code id me ⟧ ⊢ asks 𝓛 (block_ptr b o) f always (after revived)
-    revives one = moved (last_parts z) revived (counting.lone_closed 𝓛 R Q cv holds out P z) (λ s h so at. let n : ℕ = word_of s in qed 𝓛 (‵ (Counts true n h) ∷ ‵ (last_parts z) ∷ []) ∵
+    revives one = moved (last_parts z) revived (counting.lone_closed 𝓛 R Q cv holds out P z) (λ s h so at. let n : ℕ = word_of s in qed 𝓛 (‵ (Counts true n h) ∷
+        ‵ (last_parts z) ∷ []) ∵
         use2 𝓛 (given (out n ≡ 0) (‵ (Counts true n h) ⊛ ‵ (last_parts z))) (counting.lone_parts 𝓛 R Q cv holds out P z n h) $ learn ! (λ none.
         use1 𝓛 (‵ (Counts true (f n) h) ⊛ ‵ (parts z)) (counting.revives 𝓛 R Q cv holds out P z n (f n) h none (one n)) $ split ! $ frame ! $ nothing ! $
         fpack ! (out n ≡ 0) (λ _. ftrue) none $ fjoin ! $ done !))
@@ -264,7 +267,8 @@ module _ {M : Type 1} {𝓤 : Ura M} (𝓛 : Logic 𝓤) (R Q : RattleType) {V :
         move ! (2 ∷ 3 ∷ 0 ∷ 1 ∷ []) $ by ! (once_gone s))
 
     quietly : A.inv J ∗ ⟦ K ⟧ ⊢ H.⇛ ⟦ left ⟧
-    quietly = via 𝓤 (A.inv J ∗ wand 𝓤 ⟦ J ⟧ (upd 𝓤 Z)) (mono_r 𝓤 (A.inv J) (qed 𝓛 (‵ K ∷ []) ∵ assume ! (‵ J) $ fpick ! (λ y. by ! (stands_or_gone y)))) (𝓛.invs.inv_acc J
+    quietly = via 𝓤 (A.inv J ∗ wand 𝓤 ⟦ J ⟧ (upd 𝓤 Z)) (mono_r 𝓤 (A.inv J) (qed 𝓛 (‵ K ∷ []) ∵ assume ! (‵ J) $
+        fpick ! (λ y. by ! (stands_or_gone y)))) (𝓛.invs.inv_acc J
         ⟦ left ⟧)
 
   module _ (id : ℕ) (me : Me S V) where
