@@ -65,10 +65,6 @@ pub pair_told : (p : Ptr) (vs : List Val) → Is PairData (p, (tt, tt)) vs → v
 pair_told p vs is = is.1.0 ∙ ap (λ (ws : List Val). vstruct (of_list (ws ++ (is.0.1.0 ++ []))) ∷ []) is.1.1.0
     ∙ ap (λ (ws : List Val). vstruct (of_list (ptr_val p ∷ (ws ++ []))) ∷ []) is.1.1.1.0.1.0
 
--- the same of a block's place
-pub pair_at : (p : Ptr) (z : BlockId) → p ≡ place z → (vs : List Val) → Is PairData (p, (tt, tt)) vs → vs ≡ ptr_and_marker (place z) ∷ []
-pair_at p z at vs is = pair_told p vs is ∙ ap (λ (r : Ptr). ptr_and_marker r ∷ []) at
-
 module _ {M : Type 1} {𝓤 : Ura M} (𝓛 : Logic 𝓤) where
   pub pair_made : (p : Ptr) → ent 𝓤 (emp 𝓤) (sem 𝓛 (PairData.own_val (p, (tt, tt)) (ptr_and_marker p ∷ [])))
   pair_made p = makes_shadow 𝓛 (PairData.own_val (p, (tt, tt)) (ptr_and_marker p ∷ [])) (λ vss. (tt, (tt, ((λ uss. (tt, tt)), tt))))

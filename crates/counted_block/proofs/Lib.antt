@@ -7,7 +7,6 @@ pub mod Holds
 pub mod Lending
 pub mod Sent
 pub mod Beginning
-pub mod Gathering
 pub mod Boxing
 pub mod Calling
 pub mod Tokens

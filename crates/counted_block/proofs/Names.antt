@@ -62,11 +62,10 @@ pub use mathlib.Core.Bool.{not}
 pub use Rattle.counted_block.proofs.Calling.{bumps, left_behind}
 pub use denote.SharingLaws.{contraction}
 pub use Rattle.std.specs.Box.Ownership.{box_owns}
-pub use Rattle.counted_block.proofs.Beginning.{first_counts, unnamed, begun}
+pub use Rattle.counted_block.proofs.Beginning.{first_counts, unnamed, begun, gathers}
 pub use Rattle.counted_block.proofs.Boxing.{unboxes, reboxes}
 pub use Rattle.std.specs.Prelude.{bit_or, bit_and}
 pub use Rattle.core.proofs.mem.Param.{El, lawful, Good, one, opens_one}
-pub use Rattle.counted_block.proofs.Gathering.{gathers}
 pub use lib.Dec.{T}
 pub use prog.Wp.{WpFn}
 pub use denote.Triple.Call.{calls_at_last, calls_at}
