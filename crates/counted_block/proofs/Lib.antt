@@ -1,5 +1,4 @@
 pub mod Grips
-pub mod Shelves
 pub mod Opening
 pub mod Counting
 pub mod Moving

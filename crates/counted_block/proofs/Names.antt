@@ -57,7 +57,7 @@ pub use Rattle.atomic_table.proofs.Through.{hands_out}
 pub use Rattle.counted_block.specs.declared.place.Place.TheVariants.{First, Second}
 pub use Rattle.counted_block.specs.Layout.{at_first, at_value, at_second}
 pub use Rattle.counted_block.specs.Lent.{seat_with}
-pub use Rattle.counted_block.proofs.Shelves.{holding, Swapped, turns}
+pub use Rattle.counted_block.proofs.Moving.{holding, Swapped, turns}
 pub use mathlib.Core.Bool.{not}
 pub use Rattle.counted_block.proofs.Calling.{bumps, left_behind}
 pub use denote.SharingLaws.{contraction}
