@@ -31,7 +31,7 @@ use Rattle.counted_block.specs.Layout.{at_first, at_second}
 use Rattle.counted_block.specs.Blocks.{BlockId, life, place, is_one, is_all, of_shares, of_last, keepers, grip, shares_left, parts, parts_if, grips_left, Fits, seat_owns, words_in, standing, stands}
 use Rattle.counted_block.specs.Blocks.{word_of, Known, first_body, second_body, tracked, home, shelf, owed, remaining}
 use Rattle.counted_block.specs.Held.{slots_there, content, looked_at, kept_of}
-use Rattle.counted_block.proofs.Grips as grips
+use Rattle.counted_block.proofs.Counting as grips
 use Rattle.counted_block.proofs.Lending.{keeps_new}
 use Rattle.counted_block.proofs.Signs.{Signs, signs}
 use Rattle.counted_block.proofs.Holds.{is_eq, not_eq}

@@ -1,4 +1,3 @@
-pub mod Grips
 pub mod Opening
 pub mod Counting
 pub mod Moving

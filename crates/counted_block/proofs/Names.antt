@@ -16,7 +16,7 @@ pub use types.ByLocal.{alloc_all, pass_all, free_all, look_at, get, get_in, thro
 pub use types.Part.{agg, sub, whole, look_in}
 pub use types.Tokens.{shr_bor-open, obor_close}
 pub use types.Within.{tokens_halve}
-pub use Rattle.counted_block.proofs.Grips.{halve}
+pub use Rattle.counted_block.proofs.Counting.{halve}
 pub use contract.Running.{tables}
 pub use contract.Monad.{fact, fact_i}
 pub use contract.BorrowLft.{◌⊑◌}
