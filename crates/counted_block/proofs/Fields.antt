@@ -21,7 +21,7 @@ use denote.RawPtr.{RawPtr, Ptr, InBlock, block_ptr, null_ptr, ptr_val}
 use denote.Shadow.{makes_shadow}
 use denote.Struct.Laws.{RawPtr-copy, field_copy}
 use denote.Struct.Struct.{Shape, Struct}
-use denote.Struct.Owning.{shape}
+use denote.Struct.Owning.{Owning, shape}
 use denote.Struct.Tuple.{Tuple}
 use Rattle.std.specs.contracts.marker.PhantomData as phantom
 use Rattle.std.specs.declared.alloc.Allocator as Alloc
@@ -65,10 +65,6 @@ pub pair_told : (p : Ptr) (vs : List Val) → Is PairData (p, (tt, tt)) vs → v
 pair_told p vs is = is.1.0 ∙ ap (λ (ws : List Val). vstruct (of_list (ws ++ (is.0.1.0 ++ []))) ∷ []) is.1.1.0
     ∙ ap (λ (ws : List Val). vstruct (of_list (ptr_val p ∷ (ws ++ []))) ∷ []) is.1.1.1.0.1.0
 
--- the same of a block's place
-pub pair_at : (p : Ptr) (z : BlockId) → p ≡ place z → (vs : List Val) → Is PairData (p, (tt, tt)) vs → vs ≡ ptr_and_marker (place z) ∷ []
-pair_at p z at vs is = pair_told p vs is ∙ ap (λ (r : Ptr). ptr_and_marker r ∷ []) at
-
 module _ {M : Type 1} {𝓤 : Ura M} (𝓛 : Logic 𝓤) where
   pub pair_made : (p : Ptr) → ent 𝓤 (emp 𝓤) (sem 𝓛 (PairData.own_val (p, (tt, tt)) (ptr_and_marker p ∷ [])))
   pair_made p = makes_shadow 𝓛 (PairData.own_val (p, (tt, tt)) (ptr_and_marker p ∷ [])) (λ vss. (tt, (tt, ((λ uss. (tt, tt)), tt))))
@@ -81,7 +77,8 @@ module _ {M : Type 1} {𝓤 : Ura M} {𝓛 : Logic 𝓤} {C : Type 0} {Γ : List
   -- what an owner has lies at its block, and its pointer and marker come to it
   pub located : C → (p : Ptr) (z : BlockId) → p ≡ place z → {F : Fml}
       → Step C 𝓛 (‵ (fsep (PairData.own_val (p, (tt, tt)) (ptr_and_marker p ∷ [])) (fsep (fex (p ≡ place z) (λ _. ftrue)) F)) ∷ Γ) G (‵ F ∷ Γ) G
-  located t p z at = step (λ s. nothing t $ fpack t (p ≡ place z) (λ _. ftrue) at $ fjoin t $ use0 𝓛 (‵ (PairData.own_val (p, (tt, tt)) (ptr_and_marker p ∷ []))) (pair_made 𝓛 p) $ fjoin t $ s)
+  located t p z at = step (λ s. nothing t $ fpack t (p ≡ place z) (λ _. ftrue) at $ fjoin t $ use0 𝓛 (‵ (PairData.own_val (p, (tt, tt)) (ptr_and_marker p ∷ []))) (pair_made 𝓛 p) $
+      fjoin t $ s)
 
   -- a number that was found, beside what a step left
   pub numbered : C → (X : RattleType) (x : X.Denot) (v : Val) (n : ℕ) → n < 2 ^ 64 → let u : Val = vstruct (vcons (vint w64 n) (vcons v vnil)) in Step C 𝓛
@@ -102,28 +99,19 @@ pub record Kind (S W V K Y T' A : RattleType) : Type 1 where
   pub grip : ℕ
 
 module _ (S W V K Y T' A : RattleType) (g : Ghosts Y.Denot S.Denot W.Denot V.Denot K.Denot) (h : Alloc.Ghosts A.Denot) where
+  abbrev kind_of : (τ : Owning) → (τ.D → declared.Share S.Denot W.Denot V.Denot K.Denot Y.Denot T'.Denot A.Denot) → (Share → Type 0) → ℕ → Kind S W V K Y T' A
+  kind_of τ see much grip = record { name = τ.name; D = τ.D; see = see; coded = τ.coded; much = much; grip = grip }
+
   abbrev pub share_kind : Kind S W V K Y T' A
-  share_kind = let τ = share.the_type S W V K Y T' A g h in record { name = τ.name; D = τ.D; see = λ d. d; coded = τ.coded; much = is_one; grip = of_shares }
+  share_kind = kind_of (share.the_type S W V K Y T' A g h) (λ d. d) is_one of_shares
 
   abbrev pub hold_kind : Kind S W V K Y T' A
-  hold_kind = let τ = hold.the_type S W V K Y T' A g h in record {
-    name = τ.name;
-    D = τ.D;
-    see = λ d. record { at = d.at; marker = d.marker; id = d.id; key = d.key; value = d.value; heap = d.heap };
-    coded = τ.coded;
-    much = is_one;
-    grip = of_holds;
-  }
+  hold_kind = kind_of (hold.the_type S W V K Y T' A g h)
+      (λ d. record { at = d.at; marker = d.marker; id = d.id; key = d.key; value = d.value; heap = d.heap }) is_one of_holds
 
   abbrev pub last_kind : Kind S W V K Y T' A
-  last_kind = let τ = last.the_type S W V K Y T' A g h in record {
-    name = τ.name;
-    D = τ.D;
-    see = λ d. record { at = d.at; marker = d.marker; id = d.id; key = d.key; value = d.value; heap = d.heap };
-    coded = τ.coded;
-    much = is_all;
-    grip = of_last;
-  }
+  last_kind = kind_of (last.the_type S W V K Y T' A g h)
+      (λ d. record { at = d.at; marker = d.marker; id = d.id; key = d.key; value = d.value; heap = d.heap }) is_all of_last
 
   abbrev pub LedgerData : RattleType
   LedgerData = Struct (shape (ledger.the_type S W V K Y T' A g h))
@@ -155,14 +143,16 @@ module _ (S W V K Y T' A : RattleType) (g : Ghosts Y.Denot S.Denot W.Denot V.Den
     }
 
     owner_opens : {M : Type 1} {𝓤 : Ura M} (𝓛 : Logic 𝓤) → Opens 𝓛 Data
-    owner_opens {M} {𝓤} 𝓛 = (Struct-Copied 𝓛 data_shape (refl, (refl, tt)) (RawPtr-copy.copied M 𝓤 𝓛, ((field_copy (phantom.the_type (Tuple (V ∷ K ∷ Y ∷ A ∷ []))) tt).copied M 𝓤 𝓛, tt))).opens
+    owner_opens {M} {𝓤} 𝓛 = (Struct-Copied 𝓛 data_shape (refl, (refl, tt))
+        (RawPtr-copy.copied M 𝓤 𝓛, ((field_copy (phantom.the_type (Tuple (V ∷ K ∷ Y ∷ A ∷ []))) tt).copied M 𝓤 𝓛, tt))).opens
 
     module _ {M : Type 1} {𝓤 : Ura M} {𝓛 : Logic 𝓤} {C : Type 0} {Γ : List (Item 𝓤)} {G : Goal 𝓤 𝓛.H} where
       -- what a `&` to an owner has: its fields, and what it shows
       pub lent_self : C → {κ : Lft} (d : kind.D) (b o : ℕ) → let s = kind.see d in Step C 𝓛 (‵ (owner_shares (kept_of S W T' V.coded.code (g.holds s.key) g.out
           (h.dealloc_token s.heap) s.id s.value) (looked_at S W T' (h.dealloc_token s.heap) s.id s.value) kind.much kind.grip s.id κ) ∷ ‵ (hidden_shr Data κ (place s.id, (tt, tt)) b o) ∷ Γ) G
           (‵ (hidden_shr owner_row κ d b o) ∷ Γ) G
-      lent_self t {κ} d b o = let p : Ptr = (kind.see d).at in step (λ s. use1 𝓛 (‵ (hidden_shr Data κ (p, (tt, tt)) b o) ⊛ ‵ (fhide (shown d κ))) (id⊢ 𝓤 _) $ split t $ move t (1 ∷ []) $
+      lent_self t {κ} d b o = let p : Ptr = (kind.see d).at in step (λ s. use1 𝓛 (‵ (hidden_shr Data κ (p, (tt, tt)) b o) ⊛ ‵ (fhide (shown d κ))) (id⊢ 𝓤 _) $ split t $
+          move t (1 ∷ []) $
           unhide t $ fsplit t $ fpick t (λ at. drop t $ rewrite t 1 (λ (r : Ptr). ‵ (hidden_shr Data κ (r, (tt, tt)) b o)) at refl $ s))
 
       -- the fields of one that lies at r are read, and closed again
@@ -173,7 +163,8 @@ module _ (S W V K Y T' A : RattleType) (g : Ghosts Y.Denot S.Denot W.Denot V.Den
           let e = pair_told r vs is in rewrite t 0 (λ (ws : List Val). ‵ (Data.own_val (r, (tt, tt)) ws)) e refl $ rewrite t 1 (λ (ws : List Val). ‵ (cell_at q' Data.mir ws b o)) e refl $
           move t (1 ∷ 0 ∷ []) $ k q'))
 
-      abbrev pub closes_self : C → Soaks G → {κ : Lft} {q : Share} (q' : Share) (r : Ptr) (b o : ℕ) → Step C 𝓛 (‵ (flft κ q) ∷ Γ) G (‵ (cell_at q' Data.mir (ptr_and_marker r ∷ []) b o) ∷
+      abbrev pub closes_self : C → Soaks G → {κ : Lft} {q : Share} (q' : Share) (r : Ptr) (b o : ℕ) → Step C 𝓛 (‵ (flft κ q) ∷
+          Γ) G (‵ (cell_at q' Data.mir (ptr_and_marker r ∷ []) b o) ∷
           ‵ (Data.own_val (r, (tt, tt)) (ptr_and_marker r ∷ [])) ∷ Shut 𝓛 κ q (part_at Data q' (r, (tt, tt)) b o) ∷ Γ) G
       closes_self t z q' r b o = shuts t z Data q' (r, (tt, tt)) (ptr_and_marker r ∷ []) b o
 

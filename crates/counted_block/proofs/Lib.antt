@@ -1,15 +1,10 @@
-pub mod Grips
-pub mod Shelves
 pub mod Opening
 pub mod Counting
 pub mod Moving
 pub mod Holds
-pub mod Ending
-pub mod Keeping
 pub mod Lending
 pub mod Sent
 pub mod Beginning
-pub mod Gathering
 pub mod Boxing
 pub mod Calling
 pub mod Tokens

@@ -16,7 +16,7 @@ pub use types.ByLocal.{alloc_all, pass_all, free_all, look_at, get, get_in, thro
 pub use types.Part.{agg, sub, whole, look_in}
 pub use types.Tokens.{shr_bor-open, obor_close}
 pub use types.Within.{tokens_halve}
-pub use Rattle.counted_block.proofs.Grips.{halve}
+pub use Rattle.counted_block.proofs.Counting.{halve}
 pub use contract.Running.{tables}
 pub use contract.Monad.{fact, fact_i}
 pub use contract.BorrowLft.{◌⊑◌}
@@ -24,10 +24,9 @@ pub use denote.Exit.{yes, no}
 pub use denote.RattleType.{RattleType, Valss, owns}
 pub use denote.Signature.{types_at, plain}
 pub use denote.RawPtr.{Ptr, InBlock, RawPtr, block_ptr, ptr_val, ◌+ₚ◌, null_ptr, in_a_block}
-pub use denote.Steps.{nothing, only, peeks, heard, looks, shuts, opens, closes}
+pub use denote.Steps.{nothing, only, heard, opens, closes}
 pub use denote.Opens.{unhide, hide}
-pub use denote.Laws.{Is, shows}
-pub use denote.Memory.{part_at, cell_at, hidden_shr, lone, mem}
+pub use denote.Memory.{part_at, hidden_shr, lone, mem}
 pub use denote.Param.{Types, param, bounded, layout}
 pub use denote.Param.Laws.{param_laws}
 pub use denote.Builtin.{RefOf, RefMutOf, u64}
@@ -42,13 +41,14 @@ pub use Rattle.atomic_table.proofs.Walks.{proved, proved_at, leaves}
 pub use Rattle.atomic_table.proofs.Calls.{picked, fm, seq_cst, found, finds, loads, adds, subs, swaps, ands, ors, exchanges}
 pub use Rattle.atomic_table.specs.Table.{Me, step, rest, turned, opening, Allows, Enters, Splits, State, Final}
 pub use Rattle.counted_block.specs.declared.place.Place.{Place}
-pub use Rattle.counted_block.specs.Blocks.{BlockId, seat_owns, block, life, place, first_body, tracked, is_one, is_all, of_holds, of_shares, of_last, gripped, parts, parts_if, words_in, word_of, Known, remains_if, hold_parts_if}
+pub use Rattle.counted_block.specs.Blocks.{BlockId, seat_owns, block, life, place, first_body, tracked, of_shares, gripped, parts, parts_if, words_in, word_of, Known, remains_if, hold_parts_if}
 pub use Rattle.counted_block.specs.Counts.{Notes, Less, Same, More}
-pub use Rattle.counted_block.specs.Held.{content, kept_of, share_shown, value_there, slots_there, rebox, looked_at, hold_shown, last_shown}
+pub use Rattle.counted_block.specs.Held.{content, kept_of, value_there, slots_there, rebox, looked_at}
 pub use Rattle.counted_block.proofs.Tokens.{tokens, seven, eight}
-pub use Rattle.counted_block.proofs.Fields.{PairData, MarkerData, pair_told, pair_at, pair_made, marker_made, LedgerData, ledger_lent}
-pub use Rattle.counted_block.proofs.Fields.{located, numbered, Kind, share_kind, hold_kind, last_kind, Data, owner_row, lent_self, opens_self, closes_self, ptr_and_marker, marker_val, in_place, ptr_typed, pair_typed}
-pub use Rattle.counted_block.proofs.Keeping.{kept_inv, kept_shows, kept_twice}
+pub use Rattle.counted_block.proofs.Fields.{PairData, MarkerData, pair_told, pair_made, marker_made, LedgerData, ledger_lent}
+pub use Rattle.counted_block.proofs.Fields.{located, numbered, Kind, share_kind, hold_kind, last_kind, Data, owner_row, lent_self, opens_self, closes_self, ptr_and_marker, marker_val, in_place}
+pub use Rattle.counted_block.proofs.Fields.{ptr_typed, pair_typed}
+pub use Rattle.counted_block.proofs.Lending.{kept_inv, kept_shows, kept_twice, owner_sees}
 pub use types.SemTy.{Body}
 pub use denote.Follow.{follows}
 pub use denote.Struct.OwningLaws.{part_out}
@@ -57,17 +57,15 @@ pub use Rattle.atomic_table.proofs.Through.{hands_out}
 pub use Rattle.counted_block.specs.declared.place.Place.TheVariants.{First, Second}
 pub use Rattle.counted_block.specs.Layout.{at_first, at_value, at_second}
 pub use Rattle.counted_block.specs.Lent.{seat_with}
-pub use Rattle.counted_block.proofs.Shelves.{holding, Swapped, turns}
+pub use Rattle.counted_block.proofs.Moving.{holding, Swapped, turns}
 pub use mathlib.Core.Bool.{not}
 pub use Rattle.counted_block.proofs.Calling.{bumps, left_behind}
 pub use denote.SharingLaws.{contraction}
 pub use Rattle.std.specs.Box.Ownership.{box_owns}
-pub use Rattle.counted_block.proofs.Beginning.{first_counts, unnamed, begun}
+pub use Rattle.counted_block.proofs.Beginning.{first_counts, unnamed, begun, gathers}
 pub use Rattle.counted_block.proofs.Boxing.{unboxes, reboxes}
-pub use Rattle.counted_block.proofs.Lending.{owner_sees}
 pub use Rattle.std.specs.Prelude.{bit_or, bit_and}
 pub use Rattle.core.proofs.mem.Param.{El, lawful, Good, one, opens_one}
-pub use Rattle.counted_block.proofs.Gathering.{gathers}
 pub use lib.Dec.{T}
 pub use prog.Wp.{WpFn}
 pub use denote.Triple.Call.{calls_at_last, calls_at}

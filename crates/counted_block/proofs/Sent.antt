@@ -20,7 +20,8 @@ use Rattle.atomic_table.proofs.Sent.{roster_keyless}
 use Rattle.counted_block.specs.declared.place.Place.{Place}
 use Rattle.counted_block.specs.declared.place.Place.TheVariants.{First, Second}
 use Rattle.counted_block.specs.Layout.{at_value}
-use Rattle.counted_block.specs.Blocks.{BlockId, life, of_holds, of_shares, of_last, unless_last, closed, place, first_body, second_body, tracked, home, shelf, carried, seat_owns, counted, lent, standing, stands, kept}
+use Rattle.counted_block.specs.Blocks.{BlockId, life, of_holds, of_shares, of_last, unless_last, closed, place, first_body, second_body, tracked, home, shelf, carried, seat_owns, counted, lent}
+use Rattle.counted_block.specs.Blocks.{standing, stands, kept}
 use Rattle.counted_block.specs.Held.{content, owner_of, owner_shown, kept_of}
 use Rattle.counted_block.specs.contracts.inner.Inner as inner
 

@@ -11,7 +11,7 @@ use Rattle.counted_block.specs.contracts.last.LastShare as last
 use Rattle.counted_block.specs.contracts.share.MaybeShare as maybe_share
 use Rattle.counted_block.specs.contracts.remains.Remains as remains
 use Rattle.counted_block.specs.contracts.seat.Seat as seat
-use Rattle.counted_block.proofs.Ending as ending
+use Rattle.counted_block.proofs.Holds as holding
 use Rattle.counted_block.specs.contracts.last.LastShare.look as promised
 use Rattle.counted_block.proofs.last.LastShare.look.Code as code
 
@@ -37,9 +37,9 @@ look_spec 𝓤 𝓛 𝓜 𝓡 wired S₀ W₀ V₀ K₀ Y₀ T₀ A₀ _ _ _ _ _
     -- [the invariant; what is kept; the parts; the value; the seat, in two; its token; the others]
     enter ! machine.C machine.Λ routine (ptr_and_marker p ∷ vptr seat_block seat_offset ∷ []) returned $ alloc_all ! (λ l. pass_all ! refl (pair_typed p (in_place p z at), ((tt, tt), tt)) $
     let here = env routine.locals l in sets ! (is ! (of_opd ! (get_in ! (fld ! refl (stop !)) (sub ! 0 refl (whole !)))) (ap ptr_val at)) refl (tt, tt) $ first ! $ blocks ! $
-    sets ! (addr ! (through ! refl (fld ! refl (stop !)))) refl (tt, tt) $ let out : ℕ → Fml = ending.looked 𝓛 S W V.coded holds g.out P z id v in move ! (4 ∷ 5 ∷ 6 ∷ []) $
+    sets ! (addr ! (through ! refl (fld ! refl (stop !)))) refl (tt, tt) $ let out : ℕ → Fml = holding.looked 𝓛 S W V.coded holds g.out P z id v in move ! (4 ∷ 5 ∷ 6 ∷ []) $
     opens ! tt SeatRow seat_block seat_offset (λ bits. move ! (1 ∷ []) $ fsplit ! $ rewrite ! 1 (λ (u : BlockId). ‵ (seat_owns S W u V.coded.code id v)) same refl $ move ! (6 ∷ 8 ∷ 1 ∷
-    []) $ use3 𝓛 (raw (machine.C _ (vptr pb e ∷ seq_cst ∷ []) (λ u. mean 𝓛 (found out u)))) (via 𝓤 _ (ending.looks_last 𝓛 S W V.coded holds g.out P z id v) (loads 𝓛 𝓜 𝓡
+    []) $ use3 𝓛 (raw (machine.C _ (vptr pb e ∷ seq_cst ∷ []) (λ u. mean 𝓛 (found out u)))) (via 𝓤 _ (holding.looks_last 𝓛 S W V.coded holds g.out P z id v) (loads 𝓛 𝓜 𝓡
     (code.calls-std::sync::atomic::raw::load 𝓡.env wired) (block_ptr pb e) out)) $ sets ! (agg ! (and_then ! (lit ! tt) (no_more !))) refl (tt, (record { fits = lit< tt }, tt)) $
     Calls-last ! (fm 𝓛 𝓜 𝓡) (found out) (and_then ! (get ! refl) (and_then ! (get ! refl) (no_more !))) (λ u. finds ! out (λ n fits. lands_last ! refl (tt, record { fits = fits }) $
     exec ! machine.C machine.Λ here (after 2 routine.body) (at_ret here returned) $ sets ! (of_opd ! (get ! refl)) refl (tt, record { fits = fits }) $ sets ! (agg ! (no_more !)) refl (tt, tt) $

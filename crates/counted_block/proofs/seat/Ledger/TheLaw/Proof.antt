@@ -14,8 +14,7 @@ use Rattle.counted_block.specs.contracts.seat.Ledger as C
 use Rattle.counted_block.specs.Layout.{at_value}
 use Rattle.counted_block.specs.Blocks.{place}
 use Rattle.counted_block.specs.Held.{content, looked_at}
-use Rattle.counted_block.proofs.Keeping.{kept_laws}
-use Rattle.counted_block.proofs.Lending.{lends_kept}
+use Rattle.counted_block.proofs.Lending.{kept_laws, lends_kept}
 
 pub shares : (S W V K Y T A : RattleType) (g : Ghosts Y.Denot S.Denot W.Denot V.Denot K.Denot) (h : Alloc.Ghosts A.Denot) (LS : Laws S) (LW : Laws W) (LV : Laws V) (LK : Laws K) (LY : Laws Y)
     (LT : Laws T) (LA : Laws A)
