@@ -8,10 +8,10 @@ module _ {R F Q M A X B O K L : Type 0} {G : Ghosts F O} where
   abbrev pub IsCancel : Member R F Q M A X B O K L G → Type 0
   IsCancel (Runs task) = ⊥
   IsCancel (Cancelled handle) = ⊤
-  IsCancel (HasEnded ended) = ⊤
+  IsCancel (HasEnded ended posted) = ⊤
 
   -- the member was cancelled, or has ended
   abbrev pub WasCancelled : Member R F Q M A X B O K L G → Type 0
   WasCancelled (Runs task) = ⊥
   WasCancelled (Cancelled handle) = handle.cancelled ≡ true
-  WasCancelled (HasEnded ended) = ⊤
+  WasCancelled (HasEnded ended posted) = ⊤

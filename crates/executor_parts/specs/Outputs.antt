@@ -13,7 +13,7 @@ module _ {R F Q M A X B O K L : Type 0} {G : Ghosts F O} where
   abbrev pub MayGive : Member R F Q M A X B O K L G → O → Type 0
   MayGive (Runs task) output = HasYielded task.inner.share output
   MayGive (Cancelled handle) output = HasYielded handle.task.inner.share output
-  MayGive (HasEnded ended) output = ended.answer ≡ Ok output
+  MayGive (HasEnded ended posted) output = ended.answer ≡ Ok output
 
   -- what has become of a member may give no output that the member could not
   abbrev pub GivesNoMore : Member R F Q M A X B O K L G → Member R F Q M A X B O K L G → Type 0

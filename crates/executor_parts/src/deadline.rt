@@ -1,11 +1,24 @@
 //! How long a wait may last that ends at a deadline.
+ghost use Rattle.std.specs.Prelude.{◌≡◌, ◌-◌, IfOk, OnErr};
+ghost use Rattle.std.specs.Duration.{as_nanos};
+ghost use Rattle.std.specs.Time.{instant_nanos};
+
+use std::io;
 use std::time::{Clock, Duration, Instant};
 
 /// How long it is until the deadline, by the clock of the runtime. Nothing once it has passed, or where that clock has no answer.
 ///
 /// No clause says how long: only the runtime knows what its clock answers.
 pub fn left_until<R: Clock>(rt: &R, deadline: Instant) -> Duration {
-    match Instant::now(rt) {
+    left_from(Instant::now(rt), deadline)
+}
+
+// How long it is from what a clock answered.
+fn left_from(now: io::Result<Instant>, deadline: Instant) -> Duration
+    ensures left { IfOk now (λ now. as_nanos result ≡ instant_nanos deadline - instant_nanos now) }
+    ensures none { OnErr now (as_nanos result ≡ 0) }
+{
+    match now {
         Ok(now) => deadline.saturating_duration_since(now),
         Err(_) => Duration::from_secs(0),
     }

@@ -19,7 +19,7 @@ use crate::id::{Entry, MemberId};
 use crate::posts::Posts;
 use crate::shared::Shared;
 use async_task::{Runnable, Schedule, Task, Yields};
-use member::Member;
+use member::{Member, Stays};
 use slab::Slab;
 use std::alloc::{AllocError, Allocator, Global};
 use std::sync::{Arc, Wait};
@@ -144,7 +144,11 @@ where
     {
         let number = self.members.vacant_key();
         let generation = self.joined;
-        let member = self.first_look(number, Member::Runs(task)).member;
+        let Stays { member, refused } = self.first_look(number, Member::Runs(task));
+        // A refused poll is made again by `next`.
+        if let Some(refusal) = refused {
+            refusal.tell();
+        }
         let joined = counted(generation);
         self.joined = joined;
         self.members.insert_reserved(Entry { generation, member })

@@ -6,6 +6,7 @@
 mod awaiter;
 mod awaits;
 mod debug;
+mod slot;
 
 pub use awaiter::KitAwaiter;
 pub use awaits::{AwaitError, Awaits, AwaitsRefused};

@@ -34,6 +34,7 @@ pub use group::TaskGroup;
 pub use heap::{PrioritizedRunnable, PriorityHeap};
 pub use id::MemberId;
 pub use listener::Listener;
+pub use mailbox::contents::{Listens, Posted};
 pub use mailbox::{Awaiter, Mailbox};
 pub use nobody::Nobody;
 pub use numbers::Numbers;

@@ -1,23 +1,18 @@
 //! The mailbox that threads share, and the awaiter that posts to it.
-ghost use Rattle.std.specs.Prelude.{⊤, ◌≡◌, false, IfOk, IfSome};
+ghost use Rattle.std.specs.Prelude.{◌≡◌, false, IfOk, IfSome, IsSomeAnd};
 ghost use Rattle.std.specs.Arc.{arc_value};
 
 use crate::deadline::{Over, time_until};
 use crate::listener::Listener;
 use crate::nobody::Nobody;
-use crate::numbers::Numbers;
 use crate::posts::Posts;
 use async_task::Wake;
+use contents::{Contents, Listens, Posted, Unlocked};
 use std::alloc::{AllocError, Global};
 use std::sync::{Arc, Condvar, Mutex, Wait};
 use std::time::{Clock, Instant};
 
-// What is under the lock of a mailbox.
-#[derive(Drop)]
-struct Contents<L: Listener> {
-    numbers: Numbers,
-    listener: Option<L>,
-}
+pub(crate) mod contents;
 
 /// A mailbox of numbers: any thread posts, and any thread takes them or waits for one. `L` is who else may be told of a post.
 ///
@@ -35,13 +30,9 @@ impl<R: Wait + Drop + Copy, L: Listener> Mailbox<R, L> {
     /// `rt` is what its calls wait by, `alloc` where the memory comes from. An `Err` says that memory was refused; nothing stays allocated then.
     /// No clause says that it is empty, since that is under the lock.
     pub fn new(rt: R, alloc: Global, room: usize) -> Result<Arc<Mailbox<R, L>>, AllocError> {
-        let contents = Contents {
-            numbers: Numbers::new(alloc, room)?,
-            listener: None,
-        };
         let mailbox = Mailbox {
             rt,
-            contents: Mutex::new(contents),
+            contents: Mutex::new(Contents::new(alloc, room)?),
             posted: Condvar::new(),
         };
         Ok(Arc::new(alloc, mailbox)?)
@@ -52,41 +43,40 @@ impl<R: Wait + Drop + Copy, L: Listener> Mailbox<R, L> {
     ///
     /// False says that the number is not below the room; nothing has changed then. No clause says so, since the room is under the lock, too.
     pub fn post(&self, number: usize) -> bool {
-        let mut contents = self.contents.lock(&self.rt);
-        if number >= contents.numbers.room() {
-            return false;
+        self.post_number(number).0
+    }
+
+    // The same, with what shows that it was made.
+    pub(crate) fn post_number(&self, number: usize) -> (bool, Posted)
+        ensures { result.1.number ≡ number }
+    {
+        let mut unlocked = Unlocked::new(&self.contents);
+        let news = unlocked.lock(&self.rt).post(number);
+        match news {
+            Ok(news) => (true, news.tell(&self.posted, &unlocked)),
+            Err(posted) => (false, posted),
         }
-        let joined = contents.numbers.post(number);
-        let listener = contents.listener.take();
-        drop(contents);
-        if joined {
-            self.posted.notify_one();
-        }
-        if let Some(listener) = listener {
-            listener.tell();
-        }
-        true
     }
 
     /// Has the next post tell this listener, in place of the one before. Call it before the look after which you may sleep elsewhere: then the look finds
     /// a post, or the listener is told of it. No clause says who listens, since that is under the lock.
-    pub fn listen(&self, listener: L) {
-        let mut contents = self.contents.lock(&self.rt);
-        let before = contents.listener.replace(listener);
-        drop(contents);
-        drop(before);
+    pub fn listen(&self, listener: L) -> Listens {
+        let mut unlocked = Unlocked::new(&self.contents);
+        let (before, listens) = unlocked.lock(&self.rt).listen(listener);
+        before.discard(&unlocked);
+        listens
     }
 
     /// Takes out the number that has waited longest; `None` where none waits. `Numbers::take` has the clauses, under the lock.
     pub fn take(&self) -> Option<usize> {
-        self.contents.lock(&self.rt).numbers.take()
+        self.contents.lock(&self.rt).take()
     }
 
     /// Takes out the number that has waited longest, and sleeps until there is one. As of `take`, no clause of this call says which.
     pub fn wait(&self) -> usize {
         let mut contents = self.contents.lock(&self.rt);
         for _ in self.rt.forever() {
-            if let Some(number) = contents.numbers.take() {
+            if let Some(number) = contents.take() {
                 return number;
             }
             contents = self.posted.wait(&self.rt, contents);
@@ -105,7 +95,7 @@ impl<R: Wait + Clock + Drop + Copy, L: Listener> Mailbox<R, L> {
     fn await_number(&self, deadline: Instant) -> Result<usize, Over> {
         let mut contents = self.contents.lock(&self.rt);
         for _ in self.rt.forever() {
-            if let Some(number) = contents.numbers.take() {
+            if let Some(number) = contents.take() {
                 return Ok(number);
             }
             let left = match time_until(&self.rt, deadline) {
@@ -139,26 +129,27 @@ impl<R: Wait + Drop + Copy> Awaiter<R> {
 }
 
 impl<R: Wait + Drop + Copy> Wake for Awaiter<R> {
-    type Record = ();
+    // What a wake has posted; `None` of a clone that was refused.
+    type Record = Option<Posted>;
 
-    ghost woken = { λ _ _. ⊤ };
+    ghost woken = { λ awaiter made. IsSomeAnd made (λ posted. posted.number ≡ awaiter.number) };
 
-    ghost woken_by_ref = { λ _ _. ⊤ };
+    ghost woken_by_ref = { λ awaiter made. IsSomeAnd made (λ posted. posted.number ≡ awaiter.number) };
 
     ghost cloned = { λ awaiter clone. IfOk clone (λ other. (arc_value other.mailbox ≡ arc_value awaiter.mailbox) × (other.number ≡ awaiter.number)) };
 
     ghost compared = { λ _ _ answer. answer ≡ false };
 
-    fn wake(self) {
-        self.mailbox.post(self.number);
+    fn wake(self) -> Option<Posted> {
+        self.wake_by_ref()
     }
 
-    fn wake_by_ref(&self) {
-        self.mailbox.post(self.number);
+    fn wake_by_ref(&self) -> Option<Posted> {
+        Some(self.mailbox.post_number(self.number).1)
     }
 
-    fn try_clone(&self) -> Result<Awaiter<R>, ()> {
-        Awaiter::new(&self.mailbox, self.number).ok_or(())
+    fn try_clone(&self) -> Result<Awaiter<R>, Option<Posted>> {
+        Awaiter::new(&self.mailbox, self.number).ok_or(None)
     }
 
     // Two shares of a mailbox cannot be told to be of one: a wake too many posts a number once more.

@@ -1,10 +1,11 @@
 //! The aborts that a group was asked for.
-ghost use Rattle.std.specs.Prelude.{◌≡◌, ◌≢◌, ◌<◌, ℕ, None, IfOk, Some};
+ghost use Rattle.std.specs.Prelude.{◌≡◌, ◌≢◌, ◌<◌, ℕ, None, IfOk, IfSome, Some};
 ghost use Rattle.executor_parts.specs.Requested.{later, requested, room_of};
 
 use crate::id::MemberId;
 use crate::listener::Listener;
 use crate::mailbox::Mailbox;
+use crate::mailbox::contents::Posted;
 use std::alloc::{AllocError, Global};
 use std::sync::Wait;
 use std::sync::atomic::{AtomicBool, Ordering};
@@ -21,6 +22,8 @@ pub(crate) struct Requests {
 #[derive(Drop)]
 pub struct AbortAsked {
     id: MemberId,
+    posted: Posted,
+    ghost of_member: { posted.number ≡ id.number },
 }
 
 /// A request is there that nobody looks for yet. It has no `Drop`: it ends in `note`.
@@ -35,13 +38,54 @@ pub(crate) struct Noted {
     id: MemberId,
 }
 
+/// What a look for requests of a number found. Only a look makes one.
+#[derive(Drop)]
+pub(crate) struct Found {
+    number: usize,
+    generation: Option<u64>,
+}
+
+impl Found {
+    // The number, and the generation of the last member of it whose abort was asked for.
+    pub(crate) fn into_parts(self) -> (usize, Option<u64>)
+        ensures { (result.0 ≡ self.number) × (result.1 ≡ self.generation) }
+    {
+        let Found { number, generation } = self;
+        (number, generation)
+    }
+}
+
+/// Whether an abort was ever asked for: most groups are asked for none, and take no lock then.
+#[derive(Drop)]
+pub(crate) struct WasAsked(AtomicBool);
+
+impl WasAsked {
+    /// None was.
+    pub(crate) fn new() -> WasAsked {
+        WasAsked(AtomicBool::new(false))
+    }
+
+    /// That there is no request of a number. `None` where there may be one.
+    pub(crate) fn nothing(&self, number: usize) -> Option<Found>
+        ensures { IfSome result (λ found. found.number ≡ number) }
+    {
+        if self.0.load(Ordering::SeqCst) {
+            return None;
+        }
+        Some(Found {
+            number,
+            generation: None,
+        })
+    }
+}
+
 impl Asked {
     // Has who takes a number look for requests.
-    pub(crate) fn note(self, was_asked: &AtomicBool) -> Noted
+    pub(crate) fn note(self, was_asked: &WasAsked) -> Noted
         ensures { result.id ≡ self.id }
     {
         let Asked { id } = self;
-        was_asked.store(true, Ordering::SeqCst);
+        was_asked.0.store(true, Ordering::SeqCst);
         Noted { id }
     }
 }
@@ -55,8 +99,8 @@ impl Noted {
         ensures { result.id ≡ self.id }
     {
         let Noted { id } = self;
-        mailbox.post(id.number);
-        AbortAsked { id }
+        let (_, posted) = mailbox.post_number(id.number);
+        AbortAsked { id, posted }
     }
 }
 
@@ -90,9 +134,14 @@ impl Requests {
     }
 
     /// The generation of the last member of this number whose abort was asked for.
-    pub(crate) fn of(&self, number: usize) -> Option<u64>
-        ensures { result ≡ requested self.now number }
+    pub(crate) fn of(&self, number: usize) -> Found
+        ensures number { result.number ≡ number }
+        ensures generation { result.generation ≡ requested self.now number }
     {
-        *self.generations.get(number)?
+        let generation = match self.generations.get(number) {
+            Some(asked) => *asked,
+            None => None,
+        };
+        Found { number, generation }
     }
 }

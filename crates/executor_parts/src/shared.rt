@@ -1,12 +1,13 @@
 //! What a group shares with the handles that abort its members.
 ghost use Rattle.std.specs.Prelude.{◌≡◌};
 
+use crate::errors::AwaiterRefused;
 use crate::id::MemberId;
 use crate::listener::Listener;
 use crate::mailbox::Mailbox;
-use crate::requests::{AbortAsked, Requests};
+use crate::mailbox::contents::Posted;
+use crate::requests::{AbortAsked, Found, Requests, WasAsked};
 use std::alloc::{AllocError, Global};
-use std::sync::atomic::{AtomicBool, Ordering};
 use std::sync::{Arc, Mutex, Wait};
 
 /// The mailbox of a group, and the aborts that were asked for.
@@ -14,9 +15,20 @@ use std::sync::{Arc, Mutex, Wait};
 pub(crate) struct Shared<R: Wait + Drop + Copy, L: Listener> {
     rt: R,
     pub(crate) mailbox: Arc<Mailbox<R, L>>,
-    // Whether an abort was ever asked for: most groups are asked for none, and take no lock then.
-    was_asked: AtomicBool,
+    was_asked: WasAsked,
     requests: Mutex<Requests>,
+}
+
+/// The poll of a member was refused its awaiter, and its number posted, so that a later call polls it again. It has no `Drop`: it ends in `tell`.
+#[must_use]
+pub(crate) struct Refusal(pub(crate) Posted);
+
+impl Refusal {
+    /// What the call answers.
+    pub(crate) fn tell(self) -> AwaiterRefused {
+        let Refusal(_) = self;
+        AwaiterRefused
+    }
 }
 
 impl<R: Wait + Drop + Copy, L: Listener> Shared<R, L> {
@@ -27,7 +39,7 @@ impl<R: Wait + Drop + Copy, L: Listener> Shared<R, L> {
         let shared = Shared {
             rt,
             mailbox,
-            was_asked: AtomicBool::new(false),
+            was_asked: WasAsked::new(),
             requests,
         };
         Ok(Arc::new(alloc, shared)?)
@@ -42,10 +54,19 @@ impl<R: Wait + Drop + Copy, L: Listener> Shared<R, L> {
     }
 
     /// The generation of the last member of this number whose abort was asked for.
-    pub(crate) fn asked(&self, number: usize) -> Option<u64> {
-        if !self.was_asked.load(Ordering::SeqCst) {
-            return None;
+    pub(crate) fn asked(&self, number: usize) -> Found
+        ensures { result.number ≡ number }
+    {
+        match self.was_asked.nothing(number) {
+            Some(nothing) => nothing,
+            None => self.requests.lock(&self.rt).of(number),
         }
-        self.requests.lock(&self.rt).of(number)
+    }
+
+    /// Posts the number of a member, so that the group looks at it.
+    pub(crate) fn post(&self, number: usize) -> Posted
+        ensures { result.number ≡ number }
+    {
+        self.mailbox.post_number(number).1
     }
 }

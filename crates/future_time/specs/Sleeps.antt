@@ -28,6 +28,8 @@ IsAnswer woken NotInTime answer = (closed : Closed) × (answer ≡ Ready (Err cl
 IsAnswer woken Waits answer = answer ≡ Pending
 IsAnswer woken Unregistered answer = (answer ≡ Pending) × woken
 
--- the tick is no sooner than this time after an instant of the clock, which has that time
+-- the tick is the first one that is no sooner than this time after an instant of the clock, which has that time
 abbrev pub IsAfter : Instant → Duration → ℕ → Type 0
-IsAfter start duration when = (now : Instant) × FitsClock (instant_nanos now + as_nanos duration) × (when < 2 ^ 64 - 1 → instant_nanos now + as_nanos duration ≤ instant_nanos start + when * 1_000_000)
+IsAfter start duration when =
+    (now : Instant) × FitsClock (instant_nanos now + as_nanos duration) × (when < 2 ^ 64 - 1 → instant_nanos now + as_nanos duration ≤ instant_nanos start + when * 1_000_000)
+    × (when * 1_000_000 < (instant_nanos now + as_nanos duration - instant_nanos start) + 1_000_000)

@@ -6,8 +6,9 @@ ghost use Rattle.std.specs.Time.{instant_nanos};
 use crate::shared::Unlocked;
 use crate::sleep::Closed;
 use crate::ticks::Ticks;
-use std::sync::Condvar;
-use std::time::{Duration, Instant};
+use std::sync::{Condvar, MutexGuard, Wait};
+use std::time::{Clock, Duration, Instant};
+use table::TimerTable;
 use task_core::{Poll, Wake};
 
 pub(crate) mod table;
@@ -110,6 +111,45 @@ impl<W: Drop> Spare<W> {
 #[must_use]
 pub struct Closing(());
 
+/// Where a driver sleeps.
+#[derive(Drop)]
+pub struct Driver(Condvar);
+
+impl Driver {
+    // None sleeps yet.
+    pub(crate) fn new() -> Driver {
+        Driver(Condvar::new())
+    }
+}
+
+/// The tick until which a driver sleeps, as its table has noted. It has no `Drop`: it ends in `sleep`, and no driver sleeps without it.
+#[must_use]
+pub struct Rest {
+    until: Option<u64>,
+}
+
+impl Rest {
+    // Sleeps until then, or until the driver is told of an earlier timer.
+    pub(crate) fn sleep<R: Wait + Clock, W: Drop>(
+        self,
+        rt: &R,
+        ticks: &Ticks,
+        now: Instant,
+        driver: &Driver,
+        table: MutexGuard<'_, TimerTable<W>>,
+    ) {
+        let Rest { until } = self;
+        match until {
+            Some(next) => {
+                driver.0.wait_timeout(rt, table, ticks.until(next, now));
+            }
+            None => {
+                driver.0.wait(rt, table);
+            }
+        }
+    }
+}
+
 /// Whether the driver has to be told of a timer that is due before the time until which it sleeps. It has no `Drop`: it ends in `tell`.
 #[must_use]
 pub struct Notice {
@@ -117,11 +157,11 @@ pub struct Notice {
 }
 
 impl Notice {
-    /// Tells the driver that sleeps at `driver`, where it has to be told. It has no clause, since a `Condvar` shows nothing to contracts: a test sees that a driver is told.
-    pub fn tell(self, driver: &Condvar) {
+    /// Tells the driver, where it has to be told. It has no clause, since a `Condvar` shows nothing to contracts: a test sees that a driver is told.
+    pub fn tell(self, driver: &Driver) {
         let Notice { is_due } = self;
         if is_due {
-            driver.notify_all();
+            driver.0.notify_all();
         }
     }
 }

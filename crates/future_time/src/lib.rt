@@ -16,7 +16,9 @@ mod timeout;
 mod timers;
 
 pub use entry::table::{Ended, TimerTable};
-pub use entry::{Closing, Due, Elapsed, Entry, Firing, Look, Looked, Notice, Own, Spare, TimerKey};
+pub use entry::{
+    Closing, Driver, Due, Elapsed, Entry, Firing, Look, Looked, Notice, Own, Rest, Spare, TimerKey,
+};
 pub use interval::{Interval, Tick};
 pub use registry::table::{LastPoll, Polling, WatchKey, WatchTable, WatchedTask};
 pub use registry::{TaskRegistry, Watched};

@@ -1,7 +1,8 @@
 //! What the timers, their futures and their drivers have in common, and what shows that a call does not hold the lock.
+use crate::entry::Driver;
 use crate::entry::table::TimerTable;
 use crate::ticks::Ticks;
-use std::sync::{Condvar, Mutex, MutexGuard, Wait};
+use std::sync::{Mutex, MutexGuard, Wait};
 use std::time::Clock;
 use task_core::Wake;
 
@@ -24,7 +25,7 @@ pub(crate) struct Shared<R: Wait + Clock + Drop + Copy, W: Wake> {
     pub(crate) rt: R,
     pub(crate) ticks: Ticks,
     table: Mutex<TimerTable<W>>,
-    pub(crate) earlier: Condvar,
+    pub(crate) earlier: Driver,
 }
 
 impl<R: Wait + Clock + Drop + Copy, W: Wake> Shared<R, W> {
@@ -34,7 +35,7 @@ impl<R: Wait + Clock + Drop + Copy, W: Wake> Shared<R, W> {
             rt,
             ticks,
             table: Mutex::new(table),
-            earlier: Condvar::new(),
+            earlier: Driver::new(),
         }
     }
 

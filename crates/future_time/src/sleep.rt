@@ -1,5 +1,5 @@
 //! The future that is ready at a time.
-ghost use Rattle.std.specs.Prelude.{◌≡◌, ◌+◌, ◌*◌, ◌<◌, ◌≤◌, IfOk};
+ghost use Rattle.std.specs.Prelude.{◌≡◌, ◌+◌, ◌-◌, ◌*◌, ◌<◌, ◌≤◌, IfOk};
 ghost use Rattle.std.specs.Arc.{arc_value};
 ghost use Rattle.std.specs.Time.{instant_nanos};
 ghost use Rattle.future_time.specs.Sleeps.{SleepPolled, IsAfter};
@@ -55,6 +55,7 @@ impl<R: Wait + Clock + Drop + Copy, W: Wake> Timers<R, W> {
     /// Its memory is asked for here, and its polls need none. An error says that there is no timer.
     pub fn sleep_until(&self, deadline: Instant) -> Result<Sleep<R, W>, TimerError>
         ensures when { IfOk result (λ sleep. sleep.key.when < LAST_TICK → instant_nanos deadline ≤ instant_nanos (arc_value self.now.shared).ticks.start + sleep.key.when * 1_000_000) }
+        ensures least { IfOk result (λ sleep. sleep.key.when * 1_000_000 < (instant_nanos deadline - instant_nanos (arc_value self.now.shared).ticks.start) + 1_000_000) }
         ensures timers { IfOk result (λ sleep. arc_value sleep.timers.shared ≡ arc_value self.now.shared) }
     {
         let timers = self.try_clone().ok_or(TimerError::Refused)?;

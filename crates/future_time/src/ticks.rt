@@ -30,6 +30,7 @@ impl Ticks {
     // The first tick that is not before an instant; the last one where that cannot be counted.
     pub(crate) fn tick_for(&self, deadline: Instant) -> u64
         ensures not_before { result < LAST_TICK → instant_nanos deadline ≤ instant_nanos self.now.start + result * NANOS_PER_TICK }
+        ensures least { result * NANOS_PER_TICK < (instant_nanos deadline - instant_nanos self.now.start) + NANOS_PER_TICK }
     {
         ticks_of(deadline.duration_since(self.start))
     }

@@ -152,17 +152,13 @@ impl<R: Wait + Clock + Drop + Copy, W: Wake> Timers<R, W> {
         if let Some(ended) = table.ended() {
             return Some(ended);
         }
-        match table.rest() {
-            Some(next) => {
-                let left = self.shared.ticks.until(next, now);
-                self.shared
-                    .earlier
-                    .wait_timeout(&self.shared.rt, table, left);
-            }
-            None => {
-                self.shared.earlier.wait(&self.shared.rt, table);
-            }
-        }
+        let Shared {
+            rt,
+            ticks,
+            earlier,
+            ..
+        } = &*self.shared;
+        table.rest().sleep(rt, ticks, now, earlier, table);
         None
     }
 

@@ -1,13 +1,13 @@
 //! Cancelling members, and letting go of all.
-ghost use Rattle.std.specs.Prelude.{◌≡◌, ◌↔◌, true, false, IfSome};
+ghost use Rattle.std.specs.Prelude.{◌≡◌, ◌≢◌, ◌↔◌, ◌<◌, ℕ, true, false, IfSome};
 ghost use Rattle.slab.specs.Slab.{get, slab_len};
 ghost use Rattle.executor_parts.specs.Members.{SameMembers, is_member};
 ghost use Rattle.executor_parts.specs.Generations.{IsNobody, SameGenerations, StaySpent};
-ghost use Rattle.executor_parts.specs.Cancelled.{WasCancelled};
+ghost use Rattle.executor_parts.specs.Cancelled.{IsCancel, WasCancelled};
 ghost use Rattle.executor_parts.specs.Outputs.{NoneGivesMore};
 
 use super::TaskGroup;
-use super::member::Member;
+use super::member::{Member, Stays};
 use crate::errors::AwaiterRefused;
 use crate::id::{Entry, MemberId};
 use crate::posts::Posts;
@@ -54,6 +54,8 @@ where
     fn cancel_number(&mut self, number: usize) -> Result<bool, AwaiterRefused>
         ensures found { result ≡ Ok false ↔ (is_member self.old.members number ≡ false) }
         ensures cancelled { result ≡ Ok true → IfSome (get self.new.members number) (λ entry. WasCancelled entry.member) }
+        ensures cancel { IfSome (get self.new.members number) (λ entry. IsCancel entry.member) }
+        ensures others { (other : ℕ) → other ≢ number → get self.new.members other ≡ get self.old.members other }
         ensures stays { SameMembers self.old.members self.new.members }
         ensures same { SameGenerations self.old.members self.new.members }
         ensures joined { self.new.joined ≡ self.old.joined }
@@ -65,22 +67,19 @@ where
             return Ok(false);
         };
         let Entry { generation, member } = entry;
-        let looked_at = self.first_look(number, member.cancel());
-        let kept = Entry {
-            generation,
-            member: looked_at.member,
-        };
-        self.members.insert_reserved(kept);
-        if looked_at.refused {
-            return Err(AwaiterRefused);
+        let Stays { member, refused } = self.first_look(number, member.cancel());
+        self.members.insert_reserved(Entry { generation, member });
+        match refused {
+            Some(refusal) => Err(refusal.tell()),
+            None => Ok(true),
         }
-        Ok(true)
     }
 
     /// Cancels all members, as `cancel` does. Call `next` until the group is empty to wait until all futures are gone.
     ///
     /// An `Err` is that of `cancel`, of one member or several; the others are cancelled.
     pub fn cancel_all(&mut self) -> Result<(), AwaiterRefused>
+        ensures all { (number : ℕ) → number < self.old.members.capacity → IfSome (get self.new.members number) (λ entry. IsCancel entry.member) }
         ensures stays { SameMembers self.old.members self.new.members }
         ensures len { slab_len self.new.members ≡ slab_len self.old.members }
         ensures spent { StaySpent self.old.joined self.old.members self.new.joined self.new.members }

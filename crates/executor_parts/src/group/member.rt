@@ -5,12 +5,14 @@ ghost use Rattle.executor_parts.specs.Cancelled.{IsCancel};
 ghost use Rattle.executor_parts.specs.Outputs.{GivesNoMore};
 
 use crate::ended::Ended;
+use crate::mailbox::contents::Posted;
 use crate::posts::Posts;
+use crate::shared::Refusal;
 use async_task::{Cancel, Runnable, Schedule, Task, TaskClosed, TaskPoll, Yields};
 use std::alloc::Allocator;
 use std::sync::Wait;
 
-// A member: its Task, that as a Cancel which was polled, or the answer that the handle gave as it was pushed or cancelled.
+// A member: its Task, that as a Cancel which was polled, or the answer that the handle gave as it was pushed or cancelled, once its number was posted.
 #[derive(Drop)]
 pub(super) enum Member<
     R: Wait + Drop + Copy,
@@ -26,11 +28,11 @@ where
 {
     Runs(Task<R, F, Q, M, A, X, B>),
     Cancelled(Cancel<R, F, Q, M, A, X, B>),
-    HasEnded(Ended<F>),
+    HasEnded(Ended<F>, Posted),
 }
 
 // A member that has not ended, and whether its poll was refused its awaiter.
-#[derive(Drop)]
+#[must_use]
 pub(super) struct Stays<
     R: Wait + Drop + Copy,
     F: Yields,
@@ -44,7 +46,7 @@ where
     Q: Schedule<Runnable<R, F, Q, M, A, X, B>>,
 {
     pub(super) member: Member<R, F, Q, M, A, X, B>,
-    pub(super) refused: bool,
+    pub(super) refused: Option<Refusal>,
 }
 
 impl<

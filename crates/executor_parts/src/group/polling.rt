@@ -1,5 +1,5 @@
 //! How a group polls its members.
-ghost use Rattle.std.specs.Prelude.{◌≡◌, ◌≢◌, false, Some, IfOk, IfErr, IfSome};
+ghost use Rattle.std.specs.Prelude.{◌≡◌, ◌≢◌, None, Some, IfOk, IfErr, IfSome};
 ghost use Rattle.std.specs.Arc.{arc_value};
 ghost use Rattle.task_cell.specs.PollPaths.{IfOutput};
 ghost use Rattle.executor_parts.specs.Cancelled.{IsCancel, WasCancelled};
@@ -9,6 +9,8 @@ use super::TaskGroup;
 use super::member::{Member, Stays, closed_where_none};
 use crate::ended::Ended;
 use crate::posts::Posts;
+use crate::requests::Found;
+use crate::shared::Refusal;
 use async_task::{Runnable, Schedule, TaskClosed, TaskPoll, Yields};
 use std::alloc::Allocator;
 use std::sync::Wait;
@@ -25,20 +27,20 @@ impl<
 where
     Q: Schedule<Runnable<R, F, Q, M, A, X, B>>,
 {
-    // Polls a member of this number, and cancels it by that if its abort was asked for.
+    // Polls a member of the number for which was looked, and cancels it by that if its abort was asked for.
     pub(super) fn poll_asked(
         &self,
-        number: usize,
         generation: u64,
         member: Member<R, F, Q, M, A, X, B>,
-        asked: Option<u64>,
+        found: Found,
     ) -> Result<Ended<F>, Stays<R, F, Q, M, A, X, B>>
-        ensures number { IfOk result (λ ended. ended.number ≡ number) }
+        ensures number { IfOk result (λ ended. ended.number ≡ found.number) }
         ensures gives { IfOk result (λ ended. IfOk ended.answer (MayGive member)) }
         ensures stays { IfErr result (λ stays. GivesNoMore member stays.member) }
-        ensures asked { asked ≡ Some generation → IfErr result (λ stays. stays.refused ≡ false → WasCancelled stays.member) }
-        ensures of_another { asked ≢ Some generation → IfErr result (λ stays. IsCancel stays.member → IsCancel member) }
+        ensures asked { found.generation ≡ Some generation → IfErr result (λ stays. stays.refused ≡ None → WasCancelled stays.member) }
+        ensures of_another { found.generation ≢ Some generation → IfErr result (λ stays. IsCancel stays.member → IsCancel member) }
     {
+        let (number, asked) = found.into_parts();
         if asked == Some(generation) {
             self.poll_member(number, member.cancel())
         } else {
@@ -55,7 +57,8 @@ where
         ensures number { IfOk result (λ ended. ended.number ≡ number) }
         ensures gives { IfOk result (λ ended. IfOk ended.answer (MayGive member)) }
         ensures stays { IfErr result (λ stays. GivesNoMore member stays.member) }
-        ensures cancelled { IfErr result (λ stays. IsCancel member → stays.refused ≡ false → WasCancelled stays.member) }
+        ensures cancelled { IfErr result (λ stays. IsCancel member → stays.refused ≡ None → WasCancelled stays.member) }
+        ensures cancel { IfErr result (λ stays. IsCancel member → IsCancel stays.member) }
         ensures runs { IfErr result (λ stays. IsCancel stays.member → IsCancel member) }
     {
         match member {
@@ -73,7 +76,7 @@ where
                 };
                 self.settle(number, polled, Member::Cancelled(cancel))
             }
-            Member::HasEnded(ended) => Ok(ended.numbered(number)),
+            Member::HasEnded(ended, _) => Ok(ended.numbered(number)),
         }
     }
 
@@ -88,15 +91,13 @@ where
         ensures number { IfOk result (λ ended. ended.number ≡ number) }
         ensures answer { IfOk result (λ ended. polled ≡ TaskPoll.Ready ended.answer) }
         ensures member { IfErr result (λ stays. stays.member ≡ member) }
-        ensures pending { IfErr result (λ stays. stays.refused ≡ false → polled ≡ TaskPoll.Pending) }
+        ensures pending { IfErr result (λ stays. stays.refused ≡ None → polled ≡ TaskPoll.Pending) }
+        ensures posted { IfErr result (λ stays. IfSome stays.refused (λ refusal. refusal.0.number ≡ number)) }
     {
         let refused = match polled {
             TaskPoll::Ready(answer) => return Ok(Ended { number, answer }),
-            TaskPoll::Pending => false,
-            TaskPoll::Refused => {
-                self.shared.mailbox.post(number);
-                true
-            }
+            TaskPoll::Pending => None,
+            TaskPoll::Refused => Some(Refusal(self.shared.post(number))),
         };
         Err(Stays { member, refused })
     }
@@ -114,15 +115,16 @@ where
         number: usize,
         member: Member<R, F, Q, M, A, X, B>,
     ) -> Stays<R, F, Q, M, A, X, B>
-        ensures cancelled { IsCancel member → result.refused ≡ false → WasCancelled result.member }
+        ensures cancelled { IsCancel member → result.refused ≡ None → WasCancelled result.member }
+        ensures cancel { IsCancel member → IsCancel result.member }
         ensures outputs { GivesNoMore member result.member }
     {
         match self.poll_member(number, member) {
             Ok(ended) => {
-                self.shared.mailbox.post(number);
+                let posted = self.shared.post(number);
                 Stays {
-                    member: Member::HasEnded(ended),
-                    refused: false,
+                    member: Member::HasEnded(ended, posted),
+                    refused: None,
                 }
             }
             Err(stays) => stays,

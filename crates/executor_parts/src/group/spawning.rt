@@ -1,7 +1,8 @@
 //! Spawning a task of a group.
-ghost use Rattle.std.specs.Prelude.{◌≡◌, ◌↔◌, ◌<◌, ◌+◌, ◌^◌, Some, IsTrue, IsErr, IfOk, IfErr, OnErr, OnOk};
+ghost use Rattle.std.specs.Prelude.{◌≡◌, ◌↔◌, ◌<◌, ◌+◌, ◌^◌, false, Some, IsTrue, IsErr, IfOk, IfErr, OnErr, OnOk};
 ghost use Rattle.slab.specs.Slab.{slab_len};
 ghost use Rattle.task_core.specs.Yielded.{Yielded};
+ghost use Rattle.task_cell.specs.Handed.{HandedOver};
 ghost use Rattle.executor_parts.specs.Members.{Joins};
 ghost use Rattle.executor_parts.specs.Generations.{StaySpent, generation_at};
 ghost use Rattle.executor_parts.specs.Outputs.{GivesAlso};
@@ -39,6 +40,7 @@ where
         ensures why { IfErr result (λ refused. IsTrue refused.is_full ↔ (slab_len self.old.members ≡ self.old.members.capacity)) }
         ensures returned { IfErr result (λ refused. (refused.future ≡ future) × (refused.schedule ≡ schedule)) }
         ensures unchanged { OnErr result (self.new ≡ self.old) }
+        ensures scheduled { OnOk result ((cell : _) × (cell.1.schedule ≡ schedule) × HandedOver Q.scheduled cell around false) }
         ensures joins { IfOk result (λ number. Joins self.old.members self.new.members number) }
         ensures member { IfOk result (λ number. generation_at self.new.members number ≡ Some self.old.joined) }
         ensures joined { OnOk result (self.old.joined + 1 < 2 ^ 64 → self.new.joined ≡ self.old.joined + 1) }

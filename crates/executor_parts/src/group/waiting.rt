@@ -11,7 +11,9 @@ use super::member::Stays;
 use crate::ended::Ended;
 use crate::errors::{AwaiterRefused, NextUntilError};
 use crate::id::Entry;
+use crate::mailbox::contents::Listens;
 use crate::posts::Posts;
+use crate::shared::Refusal;
 use async_task::{Runnable, Schedule, Yields};
 use std::alloc::Allocator;
 use std::sync::Wait;
@@ -49,19 +51,16 @@ where
             let number = self.shared.mailbox.wait();
             match self.look(number) {
                 Ok(ended) => return Ok(Some(ended)),
-                Err(refused) => {
-                    if refused {
-                        return Err(AwaiterRefused);
-                    }
-                }
+                Err(Some(refusal)) => return Err(refusal.tell()),
+                Err(None) => {}
             }
         }
         unreachable!()
     }
 
     /// Has the next end or abort of a member tell this listener, in place of the one before. Call it before a `try_next` after which you may sleep elsewhere. No clause says who listens: that is under the lock of the mailbox.
-    pub fn listen(&self, listener: A::Listener) {
-        self.shared.mailbox.listen(listener);
+    pub fn listen(&self, listener: A::Listener) -> Listens {
+        self.shared.mailbox.listen(listener)
     }
 
     /// Takes the next member that has ended out of the group, and never sleeps. `None` where none has ended yet, and where the group is empty.
@@ -81,15 +80,15 @@ where
             };
             match self.look(number) {
                 Ok(next) => return Ok(Some(next)),
-                Err(true) => return Err(AwaiterRefused),
-                Err(false) => {}
+                Err(Some(refusal)) => return Err(refusal.tell()),
+                Err(None) => {}
             }
         }
         Ok(None)
     }
 
     // Polls the member of this number, if there is one. An `Err` says whether the poll was refused its awaiter.
-    fn look(&mut self, number: usize) -> Result<Ended<F>, bool>
+    fn look(&mut self, number: usize) -> Result<Ended<F>, Option<Refusal>>
         ensures leaves { IfOk result (λ ended. Leaves self.old.members self.new.members ended.number) }
         ensures stays { OnErr result (SameMembers self.old.members self.new.members) }
         ensures len { OnErr result (slab_len self.new.members ≡ slab_len self.old.members) }
@@ -101,11 +100,11 @@ where
         ensures room { self.new.members.capacity ≡ self.old.members.capacity }
     {
         let Some(entry) = self.members.try_remove(number) else {
-            return Err(false);
+            return Err(None);
         };
         let Entry { generation, member } = entry;
         let asked = self.shared.asked(number);
-        let polled = self.poll_asked(number, generation, member, asked);
+        let polled = self.poll_asked(generation, member, asked);
         match polled {
             Ok(ended) => Ok(ended),
             Err(stays) => {
@@ -148,8 +147,11 @@ where
             };
             match self.look(number) {
                 Ok(member) => return Ok(Some(member)),
-                Err(true) => return Err(NextUntilError::Refused),
-                Err(false) => {}
+                Err(Some(refusal)) => {
+                    refusal.tell();
+                    return Err(NextUntilError::Refused);
+                }
+                Err(None) => {}
             }
         }
         unreachable!()

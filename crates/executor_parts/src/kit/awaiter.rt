@@ -4,18 +4,12 @@ ghost use Rattle.std.specs.Arc.{arc_value};
 ghost use Rattle.futures.specs.Task.{Hears, IsArmed, Keeps};
 ghost use Rattle.executor_parts.specs.KitAnswers.{SharesSlot};
 
+use crate::kit::slot::Slot;
 use async_task::Wake;
 use futures::spin;
-use futures::task::{Context, Poll, Source, Waker};
+use futures::task::{Context, Poll};
 use std::alloc::{AllocError, Allocator, Global};
-use std::sync::{Arc, Mutex};
-
-// Where the kit's waker lies until the task is over.
-#[derive(Drop)]
-struct Slot {
-    source: Source,
-    waker: Mutex<Option<Waker>>,
-}
+use std::sync::Arc;
 
 /// An awaiter that a poll has only as it leaves the kit's waker there, so that no wake of its comes before that.
 #[derive(Drop)]
@@ -58,11 +52,7 @@ impl<B: Allocator> KitAwaiter<B> {
     /// An awaiter with no waker yet. Its memory comes from `alloc`. An `Err` says that it was refused; nothing stays allocated then.
     /// No clause says that no waker is there, since its place is under a lock.
     pub fn new(alloc: B) -> Result<KitAwaiter<B>, AllocError> {
-        let slot = Slot {
-            source: Source::new(),
-            waker: Mutex::new(None),
-        };
-        let slot = Arc::new(alloc, slot)?;
+        let slot = Arc::new(alloc, Slot::new())?;
         Ok(KitAwaiter { slot })
     }
 
@@ -95,13 +85,7 @@ impl<B: Allocator> Wake for KitAwaiter<B> {
 
     // The waker is woken after the lock is given back.
     fn wake_by_ref(&self) {
-        let taken = match spin::lock(&self.slot.waker) {
-            Some(mut waker) => waker.take(),
-            None => None,
-        };
-        if let Some(waker) = taken {
-            waker.wake();
-        }
+        self.slot.take().wake();
     }
 
     fn try_clone(&self) -> Result<KitAwaiter<B>, ()> {

@@ -5,7 +5,9 @@ ghost use Rattle.futures.specs.LinkedLists.Wheel.{deadline_of, key_limit, EachDe
 ghost use Rattle.future_time.specs.Orders.{IsNext};
 ghost use Rattle.future_time.specs.Tables.{when_of, waker_of, IsSeen, TakesWaker};
 
-use super::{Closing, Due, Elapsed, Entry, Firing, Look, Looked, Notice, Own, Spare, TimerKey};
+use super::{
+    Closing, Due, Elapsed, Entry, Firing, Look, Looked, Notice, Own, Rest, Spare, TimerKey,
+};
 use crate::order::next_key;
 use crate::ticks::LAST_TICK;
 use futures::util::wheel::Wheel;
@@ -160,15 +162,15 @@ impl<W: Drop> TimerTable<W> {
     }
 
     /// As `next_deadline`, for a driver that sleeps until then: it is told of a timer that comes due sooner.
-    pub fn rest(&mut self) -> Option<u64>
-        ensures not_late { IfSome result (λ at. EachDeadline self.new.wheel (λ when. at ≤ when)) }
-        ensures idle { IfNone result (EachDeadline self.new.wheel (λ _. ⊥)) }
-        ensures noted { self.new.rests_until ≡ Some (unwrap_or result (2 ^ 64 - 1)) }
+    pub fn rest(&mut self) -> Rest
+        ensures not_late { IfSome result.until (λ at. EachDeadline self.new.wheel (λ when. at ≤ when)) }
+        ensures idle { IfNone result.until (EachDeadline self.new.wheel (λ _. ⊥)) }
+        ensures noted { self.new.rests_until ≡ Some (unwrap_or result.until (2 ^ 64 - 1)) }
         ensures kept { SameTimers self.old self.new }
     {
-        let next = self.next_deadline();
-        self.rests_until = Some(next.unwrap_or(LAST_TICK));
-        next
+        let until = self.next_deadline();
+        self.rests_until = Some(until.unwrap_or(LAST_TICK));
+        Rest { until }
     }
 
     // Whether a driver rests that has to be told of a timer for this tick, which then rests no longer.

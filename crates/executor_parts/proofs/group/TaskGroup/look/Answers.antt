@@ -11,7 +11,7 @@ pub returns-in-Err-clause-stays : goal.returns-in-Err-clause-stays
 returns-in-Err-clause-stays g c = same-members c.args.self.now.members c.insert_reserved.new.self (returns-in-Err-clause-same g c)
 
 pub returns-in-Ok-clause-gives : goal.returns-in-Ok-clause-gives
-returns-in-Ok-clause-gives g c = came-from c.args.self.now.members c.args.number c.in-Some.entry c.in-Ok.ended (sym c.in-Some.ensures.value) c.in-Ok.ensures.number c.in-Ok.ensures.gives
+returns-in-Ok-clause-gives g c = came-from c.args.self.now.members c.args.number c.in-Some.entry c.in-Ok.ended (sym c.in-Some.ensures.value) (c.in-Ok.ensures.number ∙ c.asked-asked.ensures) c.in-Ok.ensures.gives
 
 pub returns-in-Ok-clause-none_more : goal.returns-in-Ok-clause-none_more
 returns-in-Ok-clause-none_more g c = leaves-gives c.args.self.now.members c.try_remove.new.self c.args.number c.in-Some.ensures.updates

@@ -14,11 +14,17 @@ use Rattle.executor_parts.proofs.group.TaskGroup.poll_member.Goals.{in-Some, in-
 pub returns-after-awaiter_of-clause-cancelled : goal.returns-after-awaiter_of-clause-cancelled
 returns-after-awaiter_of-clause-cancelled g c = if-err c.settle.result c.settle.ensures.member (λ stays is cancels pending. absurd (subst (λ m. IsCancel m) c.in-Runs.is cancels))
 
+pub returns-after-awaiter_of-clause-cancel : goal.returns-after-awaiter_of-clause-cancel
+returns-after-awaiter_of-clause-cancel g c = if-err c.settle.result c.settle.ensures.member (λ stays is cancels. absurd (subst (λ m. IsCancel m) c.in-Runs.is cancels))
+
 pub returns-after-awaiter_of-clause-runs : goal.returns-after-awaiter_of-clause-runs
 returns-after-awaiter_of-clause-runs g c = if-err c.settle.result c.settle.ensures.member (λ stays is cancels. absurd (subst (λ m. IsCancel m) is cancels))
 
 pub returns-after-awaiter_of-2-clause-runs : goal.returns-after-awaiter_of-2-clause-runs
 returns-after-awaiter_of-2-clause-runs g c = if-err c.settle-in-Cancelled.result c.settle-in-Cancelled.ensures.member (λ stays is cancels. subst (λ m. IsCancel m) (sym c.in-Cancelled.is) tt)
+
+pub returns-after-awaiter_of-2-clause-cancel : goal.returns-after-awaiter_of-2-clause-cancel
+returns-after-awaiter_of-2-clause-cancel g c = if-err c.settle-in-Cancelled.result c.settle-in-Cancelled.ensures.member (λ stays is cancels. subst (λ m. IsCancel m) (sym is) tt)
 
 apart : {T : Type 0} (poll : TaskPoll T) → poll ≡ Refused → poll ≡ Waits → ⊥
 apart poll refused waits = cc
