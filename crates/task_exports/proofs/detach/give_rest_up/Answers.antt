@@ -16,4 +16,4 @@ returns-else-last-clause-path c = rest_shared _ _ _ c.if-last.false c.take_uncla
 
 pub returns-then-last-clause-path : goal.returns-then-last-clause-path
 returns-then-last-clause-path c = let h = c.requires.hand in let e = c.take_unclaimed-last.ensures in let s = c.share-share.ensures in let t = sym s.0 in
-    rest_last _ _ _ c.if-last.true e.path (last_rest _ c.take_unclaimed-last.result.1 _ _ _ (h.1 ∙ sym s.0) (h.2 ∙ sym (ap (λ k. k.limit) s.1)) e.share c.if-last.true e.path, λ i. ((e.share.cell.0 ∙ s.0) i, (e.share.cell.1 ∙ s.2) i))
+    rest_last _ _ _ c.if-last.true e.path (last_rest c.share-share.result c.take_unclaimed-last.result.1 _ _ _ (h.1 ∙ sym s.0) (h.2 ∙ sym (ap (λ k. k.limit) s.1)) e.share c.if-last.true e.path, λ i. ((e.share.cell.0 ∙ s.0) i, (e.share.cell.1 ∙ s.2) i))
