@@ -1,5 +1,5 @@
 //! What a poll asks a state with, and what that leads to.
-ghost use Rattle.std.specs.Prelude.{◌≡◌, None, Ok, IfSome};
+ghost use Rattle.std.specs.Prelude.{◌≡◌, None, Ok, Err, MatchOption};
 
 use crate::shared::Unlocked;
 use task_core::Wake;
@@ -50,7 +50,7 @@ pub struct Own<W> {
 
 /// A clone of the waker that a poll was lent.
 pub(crate) fn own_waker<W: Wake>(waker: &W) -> Own<W>
-    ensures { IfSome result.waker (λ clone. W.cloned waker.now (Ok clone)) }
+    ensures { MatchOption result.waker ((refused : W.Record) × W.cloned waker.now (Err refused)) (λ clone. W.cloned waker.now (Ok clone)) }
 {
     Own {
         waker: waker.try_clone().ok(),
