@@ -150,18 +150,18 @@ impl<T, A: Allocator> Crew<T, A> {
     pub fn end_turns<R: Wait>(&self, rt: &R, worker: Worker<T, A>) -> VecDeque<T, A>
         ensures { (put : List T) × (worker.batch.items ≡ put ++ result.items) }
     {
-        self.hand_on(rt, worker).1
+        self.hand_on(rt, worker).2
     }
 
-    // The same. The first answer says that all found room there.
+    // The same. An error says that there was no memory for all.
     fn hand_on<R: Wait>(
         &self,
         rt: &R,
         worker: Worker<T, A>,
-    ) -> (Result<Visited, AllocError>, VecDeque<T, A>)
-        ensures queue { IfOk result.0 (λ visited. visited.queue ≡ (arc_value self.now.bells).workers) }
-        ensures all { OnOk result.0 (result.1.items ≡ []) }
-        ensures put { (put : List T) × (worker.batch.items ≡ put ++ result.1.items) }
+    ) -> (Visited, Result<(), AllocError>, VecDeque<T, A>)
+        ensures queue { result.0.queue ≡ (arc_value self.now.bells).workers }
+        ensures all { OnOk result.1 (result.2.items ≡ []) }
+        ensures put { (put : List T) × (worker.batch.items ≡ put ++ result.2.items) }
     {
         let Worker {
             number: _,
@@ -174,7 +174,7 @@ impl<T, A: Allocator> Crew<T, A> {
             owed,
             heard,
         } = worker;
-        let (put, woken) = self.board.put_all(rt, self.board.workers(), &mut batch);
+        let (visited, put, woken) = self.board.put_all(rt, self.board.workers(), &mut batch);
         self.ring(woken);
         if let Some(look) = owed {
             bells.settle(look);
@@ -184,6 +184,6 @@ impl<T, A: Allocator> Crew<T, A> {
             bells.pass_on(heard);
         }
         drop(bells);
-        (put, batch)
+        (visited, put, batch)
     }
 }

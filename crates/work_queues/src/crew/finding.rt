@@ -43,14 +43,18 @@ impl<T, A: Allocator> Crew<T, A> {
     }
 
     // The batch of a worker goes to the back of its own queue, as far as that has room.
-    fn put_batch<R: Wait>(&self, rt: &R, worker: &mut Worker<T, A>) -> Result<Visited, AllocError>
-        ensures queue { IfOk result (λ visited. visited.queue ≡ min worker.old.number (arc_value self.now.bells).workers) }
-        ensures all { OnOk result (worker.new.batch.items ≡ []) }
+    fn put_batch<R: Wait>(
+        &self,
+        rt: &R,
+        worker: &mut Worker<T, A>,
+    ) -> (Visited, Result<(), AllocError>)
+        ensures queue { result.0.queue ≡ min worker.old.number (arc_value self.now.bells).workers }
+        ensures all { OnOk result.1 (worker.new.batch.items ≡ []) }
     {
         let own = worker.number.min(self.board.workers());
-        let (put, woken) = self.board.put_all(rt, own, &mut worker.batch);
+        let (visited, put, woken) = self.board.put_all(rt, own, &mut worker.batch);
         self.ring(woken);
-        put
+        (visited, put)
     }
 
     // The first item of its batch. The others go into its own queue.
