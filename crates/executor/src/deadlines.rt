@@ -63,7 +63,7 @@ impl<'x, R: Wait + Clock + Drop + Copy, F: Yields, A: Wake, B: Allocator + Copy,
             at: deadline,
         };
         let place = self.place();
-        let next = self.await_within(&limit);
+        let next = self.await_within(&limit).ok();
         self.worker.pay();
         hand_out_if_any(next, place)
     }
