@@ -1,5 +1,5 @@
 //! Turns that end at a deadline: so a worker with nothing to do can drive timers.
-ghost use Rattle.std.specs.Prelude.{◌≡◌, [], IfSome, IsNone};
+ghost use Rattle.std.specs.Prelude.{◌≡◌, [], IfSome, IsNone, IsSome};
 ghost use Rattle.executor.specs.Hands.{HandsOut};
 ghost use Rattle.work_queues.specs.Settled.{OwesNothing};
 
@@ -20,7 +20,9 @@ pub(crate) struct Deadline<R: Clock + Drop> {
 }
 
 impl<R: Clock + Drop> Limit for Deadline<R> {
-    // No clause says how long: only the runtime knows its clock.
+    // How long, only the runtime knows by its clock.
+    ghost lasts = { λ _ left. IsSome left };
+
     fn left(&self) -> Option<Duration> {
         Some(left_until(&self.rt, self.at))
     }
@@ -61,7 +63,7 @@ impl<'x, R: Wait + Clock + Drop + Copy, F: Yields, A: Wake, B: Allocator + Copy,
             at: deadline,
         };
         let place = self.place();
-        let next = self.await_within(&limit);
+        let next = self.await_within(&limit).ok();
         self.worker.pay();
         hand_out_if_any(next, place)
     }

@@ -3,13 +3,15 @@ ghost use Rattle.std.specs.Prelude.{◌≡◌, IfSome, IfErr};
 ghost use Rattle.std.specs.Arc.{arc_value};
 ghost use Rattle.work_queues.specs.Duties.{SawNothing};
 
-use crate::due::DueRunnable;
+use crate::due::{DueRunnable, cancel_all};
 use crate::kept::cancel_kept;
+use crate::mail::NonePosted;
 use crate::pool::Pool;
 use crate::stage::NotShutDown;
 use async_task::{Wake, Yields};
 use std::alloc::Allocator;
 use std::sync::Wait;
+use work_queues::Worker;
 use work_queues::bells::NothingShown;
 
 /// A queue was filled, which a shutdown may have passed before. It has no `Drop`, so it ends in `Pool::look_again`.
@@ -17,13 +19,11 @@ pub(crate) struct Filled {
     queue: usize,
 }
 
-impl Filled {
-    // A queue to which a worker may have moved Runnables.
-    pub(crate) fn of(queue: usize) -> Filled
-        ensures { result.queue ≡ queue }
-    {
-        Filled { queue }
-    }
+/// No queue showed a Runnable, and no number was posted, at an instant each.
+#[derive(Drop)]
+pub(crate) struct Finished {
+    shown: NothingShown,
+    posted: NonePosted,
 }
 
 /// What a queue had was cancelled. Only `Pool::cancel_queue` makes one.
@@ -46,9 +46,12 @@ impl<R: Wait + Drop + Copy, F: Yields, A: Wake, B: Allocator + Copy, M: Drop> Po
 
     /// Ends the pool: each worker ends after the turn that it has. The answer is how many Runnables were in the queues, whose tasks it has cancelled: those in the hands of workers, and what is kept, are not counted. No clause says which were there: `cancel_queued` has the clause that no queue shows one at its end. From here on nothing is spawned, and a task is cancelled where its Runnable is queued, or its waker or its Task is kept, and any other by its next wake.
     pub fn shutdown(&self) -> usize {
-        self.stage.end(self.stage.shut_down(), &self.rt, &self.crew);
-        cancel_kept((self, self.workers()));
-        self.cancel_queued().0
+        let (closing, cancelling) = self.stage.shut_down();
+        self.stage.end(closing, &self.rt, &self.crew);
+        let kept = cancel_kept((self, self.workers()));
+        let (cancelled, none) = self.cancel_queued();
+        cancelling.end(kept, none);
+        cancelled
     }
 
     // Cancels the Runnables of all queues, until no queue shows one: how many there were.
@@ -82,17 +85,15 @@ impl<R: Wait + Drop + Copy, F: Yields, A: Wake, B: Allocator, M: Drop> Pool<R, F
     }
 
     // Whether a worker ends that has found nothing: no task is taken any more, and nothing is queued or posted.
-    pub(crate) fn is_finished(&self) -> Option<NothingShown>
-        ensures { IfSome result (SawNothing (arc_value self.now.crew.bells)) }
+    pub(crate) fn is_finished(&self) -> Option<Finished>
+        ensures { IfSome result (λ finished. SawNothing (arc_value self.now.crew.bells) finished.shown) }
     {
         if !self.stage.is_finishing() {
             return None;
         }
-        let none = self.crew.shows_none()?;
-        if self.mail.is_due() {
-            return None;
-        }
-        Some(none)
+        let shown = self.crew.shows_none()?;
+        let posted = self.mail.none_posted()?;
+        Some(Finished { shown, posted })
     }
 
     // Puts a Runnable into a queue. Where there is no memory for it, it is cancelled: the call answers nothing of that, since a schedule call answers nothing.
@@ -103,6 +104,19 @@ impl<R: Wait + Drop + Copy, F: Yields, A: Wake, B: Allocator, M: Drop> Pool<R, F
             refused.cancel();
         }
         Filled { queue }
+    }
+
+    // Ends the turns of a worker, which may have moved Runnables to its own queue and to that for what comes from outside.
+    pub(crate) fn end_turns(&self, worker: Worker<DueRunnable<R, F, A, M>, B>) -> (Filled, Filled)
+        ensures own { result.0.queue ≡ worker.number }
+        ensures outside { result.1.queue ≡ (arc_value self.now.crew.bells).workers }
+    {
+        let queue = worker.number();
+        cancel_all(self.crew.end_turns(&self.rt, worker));
+        let outside = Filled {
+            queue: self.workers(),
+        };
+        (Filled { queue }, outside)
     }
 
     // Looks for a shutdown that may have passed a queue before it was filled, and cancels what is there then.

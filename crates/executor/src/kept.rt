@@ -1,5 +1,5 @@
 //! Wakers and Tasks that futures keep: the pool has them by number, and a future has the keys.
-ghost use Rattle.std.specs.Prelude.{⊤, ◌≡◌, IfSome, IfErr};
+ghost use Rattle.std.specs.Prelude.{⊤, ◌≡◌, ◌≤◌, ◌↔◌, IfSome, IfErr, IsSome, IsTrue};
 ghost use Rattle.std.specs.Arc.{arc_value};
 ghost use Rattle.task_cell.specs.PollPaths.{IfOutput};
 ghost use Rattle.executor.specs.Outputs.{IsYielded};
@@ -75,7 +75,7 @@ pub fn keep_waker<'x, R: Wait + Drop + Copy, F: Yields, A: Wake, B: Allocator + 
     keep_at(waker, key).is_some()
 }
 
-// A task's waker was kept under this number. Only `keep_at` makes one.
+// A task's waker was kept under this number, and a look for a shutdown came after it. Only `wake_after_shutdown` makes one.
 #[derive(Drop)]
 struct WakerKept {
     number: usize,
@@ -104,10 +104,7 @@ fn keep_at<'x, R: Wait + Drop + Copy, F: Yields, A: Wake, B: Allocator + Copy, M
     match pool.wakers.put(&pool.rt, key, clone.stored()) {
         Ok(before) => {
             drop_waker(place, before);
-            wake_after_shutdown(place, key);
-            Some(WakerKept {
-                number: key.number(),
-            })
+            Some(wake_after_shutdown(place, key))
         }
         Err(clone) => {
             drop_waker(place, Some(clone));
@@ -132,7 +129,7 @@ pub fn wake_posted<'x, R: Wait + Drop + Copy, F: Yields, A: Wake, B: Allocator +
         Some(number) => {
             wake_kept(place, number);
             // This worker may be in a long poll before it takes the next one.
-            if place.0.mail.is_due() {
+            if place.0.mail.none_posted().is_none() {
                 place.0.bells().interrupt();
             }
             true
@@ -249,17 +246,23 @@ pub fn collect<'x, R: Wait + Drop + Copy, F: Yields, A: Wake, B: Allocator + Cop
 fn wake_after_shutdown<'x, R: Wait + Drop + Copy, F: Yields, A: Wake, B: Allocator + Copy, M: Drop>(
     place: Place<'x, R, F, A, B, M>,
     key: &Key<R>,
-) {
+) -> WakerKept
+    ensures { result.number ≡ key.now.number }
+{
+    let number = key.number();
     if place.0.is_shut_down() {
-        wake_kept(place, key.number());
+        wake_kept(place, number);
     }
+    WakerKept { number }
 }
 
 // Drops this Task, where there is one, which cancels its task. False where there is none.
 fn drop_task<'x, R: Wait + Drop + Copy, F: Yields, A: Wake, B: Allocator + Copy, M: Drop>(
     place: Place<'x, R, F, A, B, M>,
     task: Option<KeptTask<R, F, A, M>>,
-) -> bool {
+) -> bool
+    ensures { IsTrue result ↔ IsSome task }
+{
     task.map(|task| drop(task.with_around(place))).is_some()
 }
 
@@ -275,8 +278,17 @@ fn drop_waker<'x, R: Wait + Drop + Copy, F: Yields, A: Wake, B: Allocator + Copy
 fn wake_taken<'x, R: Wait + Drop + Copy, F: Yields, A: Wake, B: Allocator + Copy, M: Drop>(
     place: Place<'x, R, F, A, B, M>,
     waker: Option<KeptWaker<R, F, A, M>>,
-) -> bool {
+) -> bool
+    ensures { IsTrue result ↔ IsSome waker }
+{
     waker.map(|waker| waker.with_around(place).wake()).is_some()
+}
+
+/// How far the walks over the kept wakers and Tasks came. Only `cancel_kept` makes one.
+#[derive(Drop)]
+pub(crate) struct KeptCancelled {
+    wakers: Walk,
+    tasks: Walk,
 }
 
 // Cancels what is kept, after the shutdown: all wakers are woken, and then all Tasks are dropped.
@@ -287,7 +299,9 @@ pub(crate) fn cancel_kept<
     A: Wake,
     B: Allocator + Copy,
     M: Drop,
->(place: Place<'x, R, F, A, B, M>) {
+>(place: Place<'x, R, F, A, B, M>) -> KeptCancelled
+    ensures { (8 ≤ result.wakers.part) × (8 ≤ result.tasks.part) }
+{
     let pool = place.0;
     let mut wakers = Walk::default();
     let mut tasks = Walk::default();
@@ -296,7 +310,8 @@ pub(crate) fn cancel_kept<
             && !drop_task(place, pool.tasks.take_next(&pool.rt, &mut tasks))
         {
             collect(place);
-            return;
+            return KeptCancelled { wakers, tasks };
         }
     }
+    unreachable!()
 }

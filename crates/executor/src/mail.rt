@@ -20,6 +20,10 @@ pub(crate) struct Mail<R: Wait + Drop + Copy> {
     ghost parted: { InParts (λ posted. posted.part) parts.items },
 }
 
+/// A look that found no posted number. Only `Mail::none_posted` makes one.
+#[derive(Drop)]
+pub(crate) struct NonePosted(());
+
 impl<R: Wait + Drop + Copy> Mail<R> {
     ghost use Rattle.executor.specs.Posts.{IsPost};
 
@@ -53,14 +57,17 @@ impl<R: Wait + Drop + Copy> Mail<R> {
         self.parts[part_of(number)].post(&self.rt, slot_of(number))
     }
 
-    // Whether a number may wait. No clause says what the word shows: it is over as it is answered.
-    pub(crate) fn is_due(&self) -> bool {
-        self.due.load(Ordering::SeqCst) != 0
+    // A look at the bits of all parts. `None` where a number may wait. No clause says what the word shows: it is over as it is answered.
+    pub(crate) fn none_posted(&self) -> Option<NonePosted> {
+        if self.due.load(Ordering::SeqCst) != 0 {
+            return None;
+        }
+        Some(NonePosted(()))
     }
 
     // Takes out a number: that which has waited longest in its part. No clause says which, since the numbers are under the locks of the parts.
     pub(crate) fn take(&self) -> Option<usize> {
-        if !self.is_due() {
+        if self.none_posted().is_some() {
             return None;
         }
         let first = self.first.load(Ordering::SeqCst);

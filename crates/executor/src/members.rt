@@ -11,7 +11,7 @@ use crate::errors::NextMemberError;
 use crate::pool::{Place, PoolWaker, ToPool};
 use crate::turns::{Turns, run_if_any};
 use async_task::{Future, Yields};
-use executor_parts::{Ended, TaskGroup};
+use executor_parts::{AwaiterRefused, Ended, TaskGroup};
 use std::alloc::{Allocator, Global};
 use std::sync::Wait;
 use std::time::{Clock, Instant};
@@ -26,6 +26,21 @@ pub type PoolGroup<'x, R, F, B = Global, M = ()> = TaskGroup<
     BellAwaiter<R>,
     Place<'x, R, F, BellAwaiter<R>, B, M>,
 >;
+
+// The group listens: what ended before is found by a look after this. Only `Turns::listens` makes one.
+#[derive(Drop)]
+struct Listening(());
+
+impl Listening {
+    fn next<'x, R: Wait + Drop + Copy, F: Yields, B: Allocator + Copy, M: Drop>(
+        &self,
+        group: &mut PoolGroup<'x, R, F, B, M>,
+    ) -> Result<Option<Ended<F>>, AwaiterRefused>
+        ensures { TakesMember group.old.members result group.new.members }
+    {
+        group.try_next()
+    }
+}
 
 impl<'x, R: Wait + Drop + Copy, F: Yields, B: Allocator + Copy, M: Drop> Turns<
     'x,
@@ -66,6 +81,12 @@ impl<'x, R: Wait + Drop + Copy, F: Yields, B: Allocator + Copy, M: Drop> Turns<
         unreachable!()
     }
 
+    // Has the next end of a member ring the bell of this worker. `None` where it has no bell.
+    fn listens(&self, group: &PoolGroup<'x, R, F, B, M>) -> Option<Listening> {
+        group.listen(self.bell()?);
+        Some(Listening(()))
+    }
+
     // Takes the next member that has ended out of the group, as `TaskGroup::try_next` does, and has the next end of one ring the bell of this worker; without a bell it refuses. `Ok(None)` where none has ended yet, unless the pool ends.
     fn look(
         &mut self,
@@ -75,11 +96,10 @@ impl<'x, R: Wait + Drop + Copy, F: Yields, B: Allocator + Copy, M: Drop> Turns<
         ensures no_deadline { result ≢ Err NextMemberError.Elapsed }
     {
         let ends = self.ends();
-        let Some(bell) = self.bell() else {
+        let Some(listening) = self.listens(group) else {
             return Err(NextMemberError::Refused);
         };
-        group.listen(bell);
-        match group.try_next() {
+        match listening.next(group) {
             Ok(None) if ends => Err(NextMemberError::ShutDown),
             Ok(next) => Ok(next),
             Err(_) => Err(NextMemberError::Refused),

@@ -46,6 +46,7 @@ pub(crate) struct Room {
 // Has room for the numbers below `room`, and at least twice as many as before where there was less. What waits keeps its order. Where memory is refused nothing has changed.
 fn widen(numbers: &mut Numbers, alloc: Global, room: usize) -> Result<(), AllocError>
     ensures room { OnOk result (room ≤ room_of numbers.new) }
+    ensures order { posted numbers.new ≡ posted numbers.old }
 {
     let before = numbers.room();
     if room <= before {

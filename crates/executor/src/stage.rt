@@ -1,12 +1,13 @@
 //! How far a pool has come to its end.
-ghost use Rattle.std.specs.Prelude.{◌≡◌, ◌+◌};
+ghost use Rattle.std.specs.Prelude.{◌≡◌, ◌≤◌, ◌+◌};
 ghost use Rattle.std.specs.Arc.{arc_value};
 
+use crate::kept::KeptCancelled;
 use std::alloc::Allocator;
 use std::sync::Wait;
 use std::sync::atomic::{AtomicU64, Ordering};
 use work_queues::Crew;
-use work_queues::bells::AllInterrupted;
+use work_queues::bells::{AllInterrupted, NothingShown};
 use work_queues::board::{AllVisited, Reserved};
 
 const OPEN: u64 = 0;
@@ -29,6 +30,19 @@ pub(crate) struct NotShutDown(());
 
 /// The pool takes no more tasks, which spawns that have a queue and workers that sleep do not know yet. It has no `Drop`, so it ends in `Stage::end`.
 pub(crate) struct Closing(());
+
+/// The pool was shut down, and has to cancel what it has left. It has no `Drop`, so it ends in `end`.
+pub(crate) struct Cancelling(());
+
+impl Cancelling {
+    // What was kept is cancelled, and no queue shows a Runnable.
+    pub(crate) fn end(self, kept: KeptCancelled, _none: NothingShown)
+        requires { (8 ≤ kept.wakers.part) × (8 ≤ kept.tasks.part) }
+    {
+        let Cancelling(()) = self;
+        drop(kept);
+    }
+}
 
 impl Stage {
     // The stage of a pool that takes tasks. No clause says so, since threads share the word.
@@ -65,9 +79,9 @@ impl Stage {
     }
 
     // The pool is shut down from here on. As of `close`, no clause says so.
-    pub(crate) fn shut_down(&self) -> Closing {
+    pub(crate) fn shut_down(&self) -> (Closing, Cancelling) {
         self.word.store(SHUT_DOWN, Ordering::SeqCst);
-        Closing(())
+        (Closing(()), Cancelling(()))
     }
 
     // Waits until what was spawned before is in a queue. From then on workers end that find nothing, and each looks once more. A pool that was shut down stays so.

@@ -8,7 +8,7 @@ ghost use Rattle.executor.specs.Posts.{IsPost};
 ghost use Rattle.executor.specs.StoreParts.{part_number};
 
 use crate::parts::{PARTS, number_of, part_of, slot_of};
-use crate::posted::{Post, Posted};
+use crate::posted::{Post, Posted, Room};
 use slab::Slab;
 use std::alloc::{AllocError, Global};
 use std::sync::atomic::{AtomicU64, Ordering};
@@ -102,6 +102,25 @@ fn take_out<H: Drop>(places: &mut Slab<Option<H>>, slot: usize) -> Option<H>
     places.get_mut(slot)?.take()
 }
 
+// Takes a slot, with this in it, once there is room to post it. An error has it back: there was no memory.
+fn insert_into<R: Wait, H: Drop>(
+    places: &mut Slab<Option<H>>,
+    slots: &Posted,
+    rt: &R,
+    handle: Option<H>,
+) -> Result<(usize, Room), Option<H>>
+    ensures room { IfOk result (λ at. at.0 < at.1.below) }
+    ensures refused { IfErr result (λ back. back ≡ handle) }
+{
+    let Ok(room) = slots.make_room(rt, places.vacant_key()) else {
+        return Err(handle);
+    };
+    match places.insert(handle) {
+        Ok(slot) => Ok((slot, room)),
+        Err(failed) => Err(failed.value),
+    }
+}
+
 // Puts a handle into a place, and answers the one that was there. `Err` has this one back: there is no such place.
 fn put_into<H: Drop>(places: &mut Slab<Option<H>>, slot: usize, handle: H) -> Result<Option<H>, H>
     ensures before { IfOk result (λ before. before ≡ held places.old slot) }
@@ -139,19 +158,12 @@ impl<H: Drop> Part<H> {
     }
 
     // Takes a slot, with this in it. An error has it back: there was no memory.
-    fn insert<R: Wait>(&self, rt: &R, handle: Option<H>) -> Result<usize, Option<H>>
+    fn insert<R: Wait>(&self, rt: &R, handle: Option<H>) -> Result<(usize, Room), Option<H>>
+        ensures room { IfOk result (λ at. at.0 < at.1.below) }
         ensures refused { IfErr result (λ back. back ≡ handle) }
     {
         let mut places = self.places.lock(rt);
-        if self
-            .returned
-            .slots
-            .make_room(rt, places.vacant_key())
-            .is_err()
-        {
-            return Err(handle);
-        }
-        places.insert(handle).map_err(|failed| failed.value)
+        insert_into(&mut *places, &self.returned.slots, rt, handle)
     }
 
     // Whether a key is of this part: whether the count of its part, which grows here, is that of this one. The caller has the lock of the places:
@@ -253,7 +265,7 @@ impl<H: Drop> Store<H> {
             return Err(handle);
         };
         match part.insert(&rt, handle) {
-            Ok(slot) => Ok(Key {
+            Ok((slot, _)) => Ok(Key {
                 rt,
                 returned,
                 number: number_of(at, slot),

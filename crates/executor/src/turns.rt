@@ -1,5 +1,5 @@
 //! The turns of workers: one worker, what all workers need, and a worker that waits for one Task.
-ghost use Rattle.std.specs.Prelude.{◌≡◌, ◌≤◌, ◌↔◌, ℕ, [], length, true, false, IfOk, IfSome, IsNone, IsSome, IsSomeAnd, IsTrue, MatchOption};
+ghost use Rattle.std.specs.Prelude.{◌≡◌, ◌≤◌, ◌↔◌, ℕ, [], length, true, false, IfOk, IfSome, IsNone, IsSome, IsSomeAnd, IsTrue, MatchOption, OnErr};
 ghost use Rattle.std.specs.Arc.{arc_value};
 ghost use mathlib.Core.Option.{some};
 ghost use lib.ListN.{get_elem?};
@@ -9,12 +9,13 @@ ghost use Rattle.executor.specs.Wakes.{RingsWorker};
 ghost use Rattle.work_queues.specs.Settled.{OwesNothing};
 
 use crate::bell_awaiter::BellAwaiter;
-use crate::due::{DueRunnable, cancel_all};
-use crate::ending::Filled;
+use crate::due::DueRunnable;
+use crate::ending::Finished;
 use crate::errors::TurnsError;
 use crate::kept::{collect, wake_posted};
 use crate::pool::{Place, Pool, PoolRunnable, PoolWaker};
 use crate::ringing::{PoolListener, Rings};
+use crate::stage::NotShutDown;
 use async_task::{Future, TaskClosed, TaskPoll, Wake, Yields};
 use executor_parts::{Awaited, BlockOnError};
 use std::alloc::{Allocator, Global};
@@ -23,6 +24,14 @@ use work_queues::{Bells, Limit, NoLimit, Worker, WorkerCounts, WorkerError};
 
 /// A worker frees what keys left once in this many turns.
 const COLLECTS: u64 = 64;
+
+// Why a worker takes no more.
+#[derive(Drop)]
+pub(crate) enum WorkEnd {
+    ShutDown,
+    Finished(Finished),
+    Elapsed,
+}
 
 /// The turns of one worker of a pool: the thread that has them is that worker. No other turns have its number while these live.
 ///
@@ -57,11 +66,9 @@ impl<'x, R: Wait + Drop + Copy, F: Yields, A: Wake, B: Allocator, M: Drop> Drop
         let number = worker.number();
         // The next turns of this number begin with it.
         pool.numbers.show(number, earlier, worker.counts());
-        cancel_all(pool.crew.end_turns(&pool.rt, worker));
-        // This worker may have moved Runnables to both queues.
-        for queue in [number, pool.workers()] {
-            let _ = pool.look_again(Filled::of(queue));
-        }
+        let (own, outside) = pool.end_turns(worker);
+        let _ = pool.look_again(own);
+        let _ = pool.look_again(outside);
     }
 }
 
@@ -191,12 +198,16 @@ impl<'x, R: Wait + Drop + Copy, F: Yields, A: Wake, B: Allocator + Copy, M: Drop
         ensures { self.new.worker.batch ≡ self.old.worker.batch }
     {
         // A caller who counted the interruptions after the shutdown would sleep for ever.
-        if self.pool.is_shut_down() {
-            return;
+        if let Some(seen) = self.pool.stage.look() {
+            self.rest_after(&seen, interruptions, limit);
         }
-        self.pool
-            .crew
-            .rest(&self.pool.rt, &mut self.worker, interruptions, limit);
+    }
+
+    fn rest_after<L: Limit>(&mut self, _seen: &NotShutDown, interruptions: u64, limit: &L)
+        ensures { self.new.worker.batch ≡ self.old.worker.batch }
+    {
+        let crew = &self.pool.crew;
+        crew.rest(&self.pool.rt, &mut self.worker, interruptions, limit);
     }
 
     // The look after a rest, which ends what the worker owes.
@@ -263,15 +274,17 @@ impl<'x, R: Wait + Drop + Copy, F: Yields, A: Wake, B: Allocator + Copy, M: Drop
         ensures settled { OwesNothing self.new.worker }
     {
         let place = self.place();
-        let next = self.await_within(&NoLimit);
+        let next = self.await_within(&NoLimit).ok();
         self.worker.pay();
         hand_out_if_any(next, place)
     }
 
-    // As `await_next`, but `None` also where the limit is over. The worker may owe something then.
-    pub(crate) fn await_within<L: Limit>(&mut self, limit: &L) -> Option<DueRunnable<R, F, A, M>>
-        ensures hands { IsNone result → self.new.worker.batch.items ≡ [] }
-        ensures owes { IsSome result → OwesNothing self.new.worker }
+    // As `await_next`, but it also ends where the limit is over. The worker may owe something then.
+    pub(crate) fn await_within<L: Limit>(
+        &mut self,
+        limit: &L,
+    ) -> Result<DueRunnable<R, F, A, M>, WorkEnd>
+        ensures hands { OnErr result (self.new.worker.batch.items ≡ []) }
     {
         let pool = self.pool;
         let place = self.place();
@@ -280,14 +293,19 @@ impl<'x, R: Wait + Drop + Copy, F: Yields, A: Wake, B: Allocator + Copy, M: Drop
             let interruptions = bells.interruptions();
             if self.ends() {
                 collect(place);
-                return None;
+                return Err(WorkEnd::ShutDown);
             }
             let finishes = pool.stage.is_finishing();
             if let Some(due) = self.turn_or_last(place, interruptions, limit, finishes) {
-                return Some(due);
+                return Ok(due);
             }
-            if (finishes && pool.is_finished().is_some()) || limit.is_over() {
-                return None;
+            if finishes {
+                if let Some(finished) = pool.is_finished() {
+                    return Err(WorkEnd::Finished(finished));
+                }
+            }
+            if limit.is_over() {
+                return Err(WorkEnd::Elapsed);
             }
         }
         unreachable!()
@@ -329,7 +347,7 @@ impl<'x, R: Wait + Drop + Copy, F: Yields, A: Wake, B: Allocator + Copy, M: Drop
         let pool = self.pool;
         let place = self.place();
         for _ in pool.rt.forever() {
-            let next = self.await_within(&NoLimit);
+            let next = self.await_within(&NoLimit).ok();
             self.worker.pay();
             if !run_if_any(next, place) {
                 return;

@@ -5,7 +5,7 @@ use Rattle.work_queues.specs.declared.bells.Bells.{Bells}
 use Rattle.work_queues.specs.declared.bells.Flag.{Flag}
 use Rattle.work_queues.specs.declared.bells.Claim.{Claim}
 use Rattle.work_queues.specs.declared.bells.Due.{Due}
-use Rattle.work_queues.specs.declared.bells.Interrupted.{Interrupted}
+use Rattle.work_queues.specs.declared.bells.interruptions.Interrupted.{Interrupted}
 use Rattle.work_queues.specs.declared.bells.NotDue.{NotDue}
 use Rattle.work_queues.specs.declared.bells.NothingShown.{NothingShown}
 use Rattle.work_queues.specs.declared.bells.Sleeper.{Sleeper}

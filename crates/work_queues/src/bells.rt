@@ -18,6 +18,7 @@ ghost use Rattle.work_queues.specs.Sleep.{blank, owing, searches, due, not_due, 
 mod claims;
 mod flags;
 mod interruptions;
+mod kernel;
 mod looks;
 mod resting;
 mod waking;
@@ -25,10 +26,11 @@ mod waking;
 use crate::view::View;
 use crate::watch::{Enter, Sleep};
 use atomic_table::Table;
-pub use resting::Parked;
+pub use interruptions::{Interrupted, NoneSince};
+pub use kernel::{Parked, Unparked};
 use std::alloc::{AllocError, Global};
 use std::sync::atomic::AtomicU64;
-pub use waking::{Unparked, Woken};
+pub use waking::Woken;
 
 /// The most workers of a pool.
 pub const MOST_WORKERS: usize = 1024;
@@ -127,13 +129,6 @@ pub struct NotDue {
 pub struct Heard {
     place: Place,
     ghost is: { place.seat.me.0.interruption ≡ taken },
-}
-
-/// A worker was interrupted: at an instant of the call that answers this it was not asleep, and looks once more.
-#[derive(Drop)]
-pub struct Interrupted {
-    worker: usize,
-    seat: Seat,
 }
 
 /// Each worker below a number was interrupted.

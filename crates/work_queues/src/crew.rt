@@ -1,5 +1,5 @@
 //! What the workers of a pool share: their queues and their bells.
-ghost use Rattle.std.specs.Prelude.{◌≡◌, ◌+◌, ◌<◌, ◌≤◌, ◌++◌, ◌↔◌, List, [], min, max, IfOk};
+ghost use Rattle.std.specs.Prelude.{◌≡◌, ◌+◌, ◌<◌, ◌≤◌, ◌++◌, ◌↔◌, List, [], min, max, IfOk, OnOk};
 ghost use Rattle.std.specs.Arc.{arc_value};
 ghost use Rattle.std.specs.VecDeque.{deque_capacity};
 
@@ -9,7 +9,7 @@ mod resting;
 mod worker;
 
 use crate::bells::Bells;
-use crate::board::{Board, ClosedBoard};
+use crate::board::{Board, ClosedBoard, Visited};
 use crate::settings::Settings;
 use std::alloc::{AllocError, Allocator, Global};
 use std::collections::VecDeque;
@@ -150,6 +150,19 @@ impl<T, A: Allocator> Crew<T, A> {
     pub fn end_turns<R: Wait>(&self, rt: &R, worker: Worker<T, A>) -> VecDeque<T, A>
         ensures { (put : List T) × (worker.batch.items ≡ put ++ result.items) }
     {
+        self.hand_on(rt, worker).2
+    }
+
+    // The same. An error says that there was no memory for all.
+    fn hand_on<R: Wait>(
+        &self,
+        rt: &R,
+        worker: Worker<T, A>,
+    ) -> (Visited, Result<(), AllocError>, VecDeque<T, A>)
+        ensures queue { result.0.queue ≡ (arc_value self.now.bells).workers }
+        ensures all { OnOk result.1 (result.2.items ≡ []) }
+        ensures put { (put : List T) × (worker.batch.items ≡ put ++ result.2.items) }
+    {
         let Worker {
             number: _,
             looks: _,
@@ -161,7 +174,7 @@ impl<T, A: Allocator> Crew<T, A> {
             owed,
             heard,
         } = worker;
-        let (_, woken) = self.board.put_all(rt, self.board.workers(), &mut batch);
+        let (visited, put, woken) = self.board.put_all(rt, self.board.workers(), &mut batch);
         self.ring(woken);
         if let Some(look) = owed {
             bells.settle(look);
@@ -171,6 +184,6 @@ impl<T, A: Allocator> Crew<T, A> {
             bells.pass_on(heard);
         }
         drop(bells);
-        batch
+        (visited, put, batch)
     }
 }

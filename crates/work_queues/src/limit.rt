@@ -1,12 +1,17 @@
 //! Until when a worker may rest.
-ghost use Rattle.std.specs.Prelude.{◌≡◌, IsNone, Some};
+ghost use Rattle.std.specs.Prelude.{◌≡◌, IsNone, Option, Some};
+ghost use Rattle.std.specs.declared.time.Duration.{Duration};
 
 use std::time::Duration;
 
 /// Until when a worker may rest.
 pub trait Limit {
-    /// How long it may rest from now on. `None` where only a wake ends its rest. A clock may answer, so no clause says what.
-    fn left(&self) -> Option<Duration>;
+    // What it may answer.
+    ghost lasts: { Self → Option Duration → Type 0 };
+
+    /// How long it may rest from now on. `None` where only a wake ends its rest.
+    fn left(&self) -> Option<Duration>
+        ensures { lasts self.now result };
 
     /// Whether no time is left: one more look at that clock.
     fn is_over(&self) -> bool {
@@ -22,18 +27,18 @@ pub trait Limit {
 pub struct NoLimit;
 
 impl Limit for NoLimit {
-    fn left(&self) -> Option<Duration>
-        ensures { IsNone result }
-    {
+    ghost lasts = { λ _ left. IsNone left };
+
+    fn left(&self) -> Option<Duration> {
         None
     }
 }
 
 /// A sleep lasts at most this time, whenever it begins. A search before it is not counted.
 impl Limit for Duration {
-    fn left(&self) -> Option<Duration>
-        ensures { result ≡ Some self.now }
-    {
+    ghost lasts = { λ most left. left ≡ Some most };
+
+    fn left(&self) -> Option<Duration> {
         Some(*self)
     }
 }

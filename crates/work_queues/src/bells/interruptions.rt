@@ -3,15 +3,33 @@ ghost use Rattle.std.specs.Prelude.{◌≡◌, ◌<◌, ◌≤◌, ◌+◌, ◌�
 ghost use Rattle.work_queues.specs.Duties.{IsClaim, IsInterrupted, WasDue, WasNotDue};
 
 use super::{
-    ASLEEP, AWAKE, AllInterrupted, Bells, Claim, Due, HIDDEN, Heard, INTERRUPTED, Interrupted,
-    NotDue, Place, SHOWN, Woken,
+    ASLEEP, AWAKE, AllInterrupted, Bells, Claim, Due, HIDDEN, Heard, INTERRUPTED, NotDue, Place,
+    SHOWN, Seat, Woken,
 };
 use crate::watch::{Hear, Interrupt, LookWhetherDue, Permit};
 use std::sync::atomic::Ordering;
 
+/// A worker was interrupted: at an instant of the call that answers this it was not asleep, and looks once more.
+#[derive(Drop)]
+pub struct Interrupted {
+    worker: usize,
+    seat: Seat,
+    counted: Counted,
+}
+
+// One more interruption was counted. Only `count_one` makes one.
+#[derive(Drop)]
+struct Counted(());
+
+/// At an instant of the call that answers this, as many interruptions were counted as this.
+#[derive(Drop)]
+pub struct NoneSince {
+    interruptions: u64,
+}
+
 impl Bells {
     // Has this worker look once more, and answers it if it slept.
-    fn permit(&self, worker: usize) -> (Interrupted, Option<Woken>)
+    fn permit(&self, worker: usize, counted: Counted) -> (Interrupted, Option<Woken>)
         requires { worker < self.now.workers }
         ensures interrupted { IsInterrupted self.now worker result.0 }
         ensures woken { IfSome result.1 (λ woken. woken.worker ≡ worker) }
@@ -25,7 +43,12 @@ impl Bells {
         } else {
             None
         };
-        (Interrupted { worker, seat }, woken)
+        let interrupted = Interrupted {
+            worker,
+            seat,
+            counted,
+        };
+        (interrupted, woken)
     }
 
     /// Has one worker look once more for what is to be done, though no queue has anything: a sleeping one, if one sleeps. The interruption is due until a worker hears it.
@@ -37,7 +60,7 @@ impl Bells {
         let Place { mut seat } = self.enter();
         // Where one is due already, the worker that hears it looks after this one, too.
         if shared.load::<LookWhetherDue>(&mut seat, word) != SHOWN {
-            self.interruptions.fetch_add(1, Ordering::SeqCst);
+            self.count_one();
             shared.store::<Interrupt>(&mut seat, word, SHOWN);
             if let Some(woken) = self.wake_first(&mut seat) {
                 self.ring(woken);
@@ -56,11 +79,11 @@ impl Bells {
         ensures interrupted { IfSome result (λ interrupted. IsInterrupted self.now worker interrupted) }
         ensures none { IsNone result ↔ (self.now.workers ≤ worker) }
     {
-        self.interruptions.fetch_add(1, Ordering::SeqCst);
+        let counted = self.count_one();
         if worker >= self.workers {
             return None;
         }
-        let (interrupted, woken) = self.permit(worker);
+        let (interrupted, woken) = self.permit(worker, counted);
         if let Some(woken) = woken {
             self.ring(woken);
         }
@@ -93,6 +116,21 @@ impl Bells {
     /// How many interruptions there were, but for those that found one due. The count is no word of the table, so no clause speaks of it.
     pub fn interruptions(&self) -> u64 {
         self.interruptions.load(Ordering::SeqCst)
+    }
+
+    fn count_one(&self) -> Counted {
+        self.interruptions.fetch_add(1, Ordering::SeqCst);
+        Counted(())
+    }
+
+    /// Whether the count of the interruptions is still this. `None` where there were more.
+    pub fn none_since(&self, interruptions: u64) -> Option<NoneSince>
+        ensures { IfSome result (λ none. none.interruptions ≡ interruptions) }
+    {
+        if self.interruptions() != interruptions {
+            return None;
+        }
+        Some(NoneSince { interruptions })
     }
 
     // Takes the interruption that is due, if one is: the worker looks once more.

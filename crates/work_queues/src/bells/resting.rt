@@ -3,18 +3,13 @@ ghost use Rattle.std.specs.Prelude.{◌≡◌, ◌+◌, ◌*◌, ◌<◌, ◌⊎
 ghost use Rattle.work_queues.specs.Duties.{IsClaim, IsAsleep, SawEach};
 ghost use Rattle.work_queues.specs.Sleep.{owing, sleeps, worker_word, this, asleep};
 
-use super::{ASLEEP, AWAKE, Bells, Claim, Look, MOST_SLEEPERS, Place, Search, Seat, Sleeper};
+use super::{
+    ASLEEP, AWAKE, Bells, Claim, Look, MOST_SLEEPERS, NoneSince, Parked, Place, Search, Seat,
+    Sleeper,
+};
+use crate::limit::Limit;
 use crate::watch::{BeginSearch, Count, CountNot, EndSearch, GetUp, LieDown};
 use std::sync::Wait;
-use std::time::Duration;
-
-/// The kernel was told to let a thread sleep on this word, while that shows this value, and for no longer than this.
-#[derive(Drop)]
-pub struct Parked {
-    word: usize,
-    value: u32,
-    most: Option<Duration>,
-}
 
 impl Bells {
     /// Begins a search, for what it owes as well. `Err` has looks that it owes, where a worker searches already.
@@ -125,25 +120,20 @@ impl Bells {
         self.sees_flag(&mut sleeper.place.seat)
     }
 
-    /// Sleeps until the worker is woken, or for the given time. Only a worker that owes no look may call it. It may also return for no reason: what the kernel does, no clause says.
-    pub fn sleep<R: Wait>(&self, rt: &R, sleeper: &Sleeper, most: Option<Duration>) -> Parked
+    /// Sleeps until the worker is woken, or until the limit. Only a worker that owes no look may call it, and found the interruptions as it had counted them. It may also return for no reason: what the kernel does, no clause says.
+    pub fn sleep<R: Wait, L: Limit>(
+        &self,
+        rt: &R,
+        sleeper: &Sleeper,
+        _none: &NoneSince,
+        limit: &L,
+    ) -> Parked
         requires { IsAsleep self.now sleeper.now × (sleeper.now.place.seat.me.0.owes ≡ 0) }
-        ensures { (result.word ≡ worker_word self.now.workers sleeper.now.worker) × (result.value ≡ asleep) × (result.most ≡ most) }
+        ensures at { (result.word ≡ worker_word self.now.workers sleeper.now.worker) × (result.value ≡ asleep) }
+        ensures most { L.lasts limit.now result.most }
     {
-        self.park(rt, self.worker_word(sleeper.worker), ASLEEP as u32, most)
-    }
-
-    // The call of the kernel, and what it was called with.
-    fn park<R: Wait>(&self, rt: &R, word: usize, value: u32, most: Option<Duration>) -> Parked
-        requires { word < self.now.table.shared.table_id.words }
-        ensures { (result.word ≡ word) × (result.value ≡ value) × (result.most ≡ most) }
-    {
-        let shared = &self.table.shared;
-        match most {
-            Some(most) => shared.park_timeout(rt, word, value, most),
-            None => shared.park(rt, word, value),
-        }
-        Parked { word, value, most }
+        let word = self.worker_word(sleeper.worker);
+        self.park(rt, word, ASLEEP as u32, limit.left())
     }
 
     /// Ends the sleep: the worker is awake, and looks once more.

@@ -2,18 +2,12 @@
 ghost use Rattle.std.specs.Prelude.{◌≡◌, ◌+◌, ◌*◌, ◌<◌, IfSome, IsNone};
 ghost use Rattle.work_queues.specs.Sleep.{interrupts, knows, left_of, paid, roused, worker_word};
 
-use super::{ASLEEP, Bells, Seat, WOKEN};
+use super::{ASLEEP, Bells, Seat, Unparked, WOKEN};
 use crate::watch::{LookAtWorker, Rouse, Wake};
 
 /// A worker that a step has woken, until its thread is.
 pub struct Woken {
     worker: usize,
-}
-
-/// The kernel was told to wake a thread that sleeps on this word.
-#[derive(Drop)]
-pub struct Unparked {
-    word: usize,
 }
 
 impl Woken {
@@ -65,14 +59,5 @@ impl Bells {
     {
         let Woken { worker } = woken;
         self.unpark(self.worker_word(worker))
-    }
-
-    // The call of the kernel, and what it was called with.
-    fn unpark(&self, word: usize) -> Unparked
-        requires { word < self.now.table.shared.table_id.words }
-        ensures { result.word ≡ word }
-    {
-        self.table.shared.wake_one(word);
-        Unparked { word }
     }
 }

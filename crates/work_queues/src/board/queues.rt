@@ -163,28 +163,24 @@ impl<T, A: Allocator> Board<T, A> {
         woken
     }
 
-    /// Puts the items of `batch` at the back of a queue, in their order, and answers the worker that is to be woken. What the queue has no room for, where it is refused memory, stays in `batch`.
+    /// Puts the items of `batch` at the back of a queue, in their order, and answers the worker that is to be woken. An error says that there was no memory for all: what the queue has no room for stays in `batch`.
     pub fn put_all<R: Wait>(
         &self,
         rt: &R,
         queue: usize,
         batch: &mut VecDeque<T, A>,
-    ) -> (Result<Visited, AllocError>, Option<Woken>)
+    ) -> (Visited, Result<(), AllocError>, Option<Woken>)
         requires { queue ≤ (arc_value self.now.bells).workers }
-        ensures queue { IfOk result.0 (λ visited. visited.queue ≡ queue) }
-        ensures all { OnOk result.0 (batch.new.items ≡ []) }
+        ensures queue { result.0.queue ≡ queue }
+        ensures all { OnOk result.1 (batch.new.items ≡ []) }
         ensures put { (put : List T) × (batch.old.items ≡ put ++ batch.new.items) }
-        ensures woken { IfSome result.1 (λ woken. woken.worker < (arc_value self.now.bells).workers) }
+        ensures woken { IfSome result.2 (λ woken. woken.worker < (arc_value self.now.bells).workers) }
     {
         let mut visit = self.lock(rt, queue);
         let held = visit.seat.slot_mut(&self.table.shared, queue);
         let put = held.put_all(batch);
         let woken = held.publish(&self.bells);
-        let visited = self.unlock(visit, queue);
-        match put {
-            Ok(()) => (Ok(visited), woken),
-            Err(refused) => (Err(refused), woken),
-        }
+        (self.unlock(visit, queue), put, woken)
     }
 
     // `None` where another thread has the queue.

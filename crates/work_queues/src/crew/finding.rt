@@ -1,5 +1,5 @@
 //! Where a worker finds its next item.
-ghost use Rattle.std.specs.Prelude.{◌≡◌, ◌<◌, ◌/◌, ◌%◌, ◌++◌, [], min, option_to_list, IfOk, IsNone, IsSome, OnOk};
+ghost use Rattle.std.specs.Prelude.{◌≡◌, ◌<◌, ◌≤◌, ◌+◌, ◌/◌, ◌%◌, ◌++◌, [], min, option_to_list, IfErr, IfOk, IsNone, IsSome, OnErr, OnOk};
 ghost use Rattle.std.specs.Arc.{arc_value};
 ghost use Rattle.std.specs.VecDeque.{deque_len};
 
@@ -17,6 +17,12 @@ fn whose_turn(visits: u64, workers: usize) -> usize
     ensures { result ≡ (visits / 16) % workers }
 {
     (visits / OTHERS_EVERY) as usize % workers
+}
+
+// A worker has looked at the queue for what comes from outside and at those of others, so many in all, and taken nothing. Only `Crew::steal_next` adds one.
+#[derive(Drop)]
+struct Looked {
+    queues: usize,
 }
 
 impl<T, A: Allocator> Crew<T, A> {
@@ -37,14 +43,18 @@ impl<T, A: Allocator> Crew<T, A> {
     }
 
     // The batch of a worker goes to the back of its own queue, as far as that has room.
-    fn put_batch<R: Wait>(&self, rt: &R, worker: &mut Worker<T, A>) -> Result<Visited, AllocError>
-        ensures queue { IfOk result (λ visited. visited.queue ≡ min worker.old.number (arc_value self.now.bells).workers) }
-        ensures all { OnOk result (worker.new.batch.items ≡ []) }
+    fn put_batch<R: Wait>(
+        &self,
+        rt: &R,
+        worker: &mut Worker<T, A>,
+    ) -> (Visited, Result<(), AllocError>)
+        ensures queue { result.0.queue ≡ min worker.old.number (arc_value self.now.bells).workers }
+        ensures all { OnOk result.1 (worker.new.batch.items ≡ []) }
     {
         let own = worker.number.min(self.board.workers());
-        let (put, woken) = self.board.put_all(rt, own, &mut worker.batch);
+        let (visited, put, woken) = self.board.put_all(rt, own, &mut worker.batch);
         self.ring(woken);
-        put
+        (visited, put)
     }
 
     // The first item of its batch. The others go into its own queue.
@@ -59,27 +69,48 @@ impl<T, A: Allocator> Crew<T, A> {
         first
     }
 
-    // Takes no lock of a queue that is empty, nor of one whose worker is about to empty it. Each worker begins behind its own queue, so that thieves spread.
-    fn find_elsewhere<R: Wait>(&self, rt: &R, worker: &mut Worker<T, A>) -> Option<T>
-        requires { worker.old.batch.items ≡ [] }
-        ensures { IsNone result → worker.new.batch.items ≡ [] }
+    // Looks at the next queue: first at that for what comes from outside, and then at each from its own on, so that thieves spread. It takes no lock of one that is empty, nor of one whose worker is about to empty it.
+    fn steal_next<R: Wait>(
+        &self,
+        rt: &R,
+        worker: &mut Worker<T, A>,
+        before: Looked,
+    ) -> Result<T, Looked>
+        requires { (worker.old.batch.items ≡ []) × (before.queues ≤ (arc_value self.now.bells).workers) }
+        ensures looked { IfErr result (λ looked. looked.queues ≡ before.queues + 1) }
+        ensures none { OnErr result (worker.new.batch.items ≡ []) }
     {
         let workers = self.board.workers();
-        if !self.board.is_empty(workers) {
-            if let Some(item) = self.steal(rt, worker, workers) {
-                return Some(item);
+        let (from, takes) = if before.queues == 0 {
+            (workers, !self.board.is_empty(workers))
+        } else {
+            let from = (worker.number % workers + before.queues - 1) % workers;
+            (from, from != worker.number && self.board.is_left(from))
+        };
+        if takes {
+            if let Some(item) = self.steal(rt, worker, from) {
+                return Ok(item);
             }
         }
-        let number = worker.number % workers;
-        for step in 0..workers {
-            let from = (number + step) % workers;
-            if from != worker.number && self.board.is_left(from) {
-                if let Some(item) = self.steal(rt, worker, from) {
-                    return Some(item);
-                }
+        Err(Looked {
+            queues: before.queues + 1,
+        })
+    }
+
+    // An error says that it has looked at each queue.
+    fn find_elsewhere<R: Wait>(&self, rt: &R, worker: &mut Worker<T, A>) -> Result<T, Looked>
+        requires { worker.old.batch.items ≡ [] }
+        ensures all { IfErr result (λ looked. looked.queues ≡ (arc_value self.now.bells).workers + 1) }
+        ensures none { OnErr result (worker.new.batch.items ≡ []) }
+    {
+        let mut looked = Looked { queues: 0 };
+        for _queue in 0..self.board.workers() + 1 {
+            match self.steal_next(rt, worker, looked) {
+                Ok(item) => return Ok(item),
+                Err(next) => looked = next,
             }
         }
-        None
+        Err(looked)
     }
 
     // What a worker that always has items of its own would never come to: half of the next other worker's queue, if it is the turn of that, or what came from outside.
@@ -135,6 +166,9 @@ impl<T, A: Allocator> Crew<T, A> {
         if let Some(item) = self.pop(rt, worker.number) {
             return Some(item);
         }
-        self.find_elsewhere(rt, worker)
+        match self.find_elsewhere(rt, worker) {
+            Ok(item) => Some(item),
+            Err(_) => None,
+        }
     }
 }

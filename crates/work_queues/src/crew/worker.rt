@@ -4,7 +4,7 @@ ghost use Rattle.std.specs.Arc.{arc_value};
 ghost use Rattle.std.proofs.Props.{props};
 ghost use Rattle.work_queues.specs.Duties.{IsClaim, WasDue, WasNotDue};
 
-use crate::bells::{Bells, Claim, Due, Heard, Look, NotDue};
+use crate::bells::{Bells, Claim, Due, Heard, Look, NotDue, Parked};
 use crate::limit::Limit;
 use std::alloc::{Allocator, Global};
 use std::collections::VecDeque;
@@ -38,6 +38,12 @@ pub struct Worker<T, A: Allocator = Global> {
     pub(super) heard: Option<Heard>,
     ghost claimed: { IsClaim (arc_value bells) claim × (claim.number ≡ number) },
     ghost owes: { IfSome owed (λ look. look.place.seat.table_id ≡ (arc_value bells).table.shared.table_id) } by { Prim.hlevel props },
+}
+
+// A worker lay down, and slept, unless it was interrupted or saw something. Only `Worker::lie_down` makes one.
+#[derive(Drop)]
+pub(super) struct LainDown {
+    slept: Option<Parked>,
 }
 
 impl<T, A: Allocator> Worker<T, A> {
@@ -96,20 +102,24 @@ impl<T, A: Allocator> Worker<T, A> {
         look: Look,
         interruptions: u64,
         limit: &L,
-    ) -> Look
+    ) -> (Look, LainDown)
         requires { look.place.seat.table_id ≡ (arc_value self.old.bells).table.shared.table_id }
-        ensures look { result.place.seat.table_id ≡ (arc_value self.old.bells).table.shared.table_id }
+        ensures look { result.0.place.seat.table_id ≡ (arc_value self.old.bells).table.shared.table_id }
+        ensures slept { IfSome result.1.slept (λ parked. L.lasts limit.now parked.most) }
         ensures kept { (self.new.bells ≡ self.old.bells) × (self.new.owed ≡ self.old.owed) × (self.new.batch ≡ self.old.batch) }
     {
         self.counts.sleeps = self.counts.sleeps.wrapping_add(1);
         let mut sleeper = match self.bells.lie_down(rt, Some(look), &self.claim) {
             Ok(sleeper) => sleeper,
-            Err(look) => return look,
+            Err(look) => return (look, LainDown { slept: None }),
         };
-        if !self.bells.sees_something(&mut sleeper) && self.bells.interruptions() == interruptions {
-            self.bells.sleep(rt, &sleeper, limit.left());
+        let mut slept = None;
+        if !self.bells.sees_something(&mut sleeper) {
+            if let Some(none) = self.bells.none_since(interruptions) {
+                slept = Some(self.bells.sleep(rt, &sleeper, &none, limit));
+            }
         }
-        self.bells.get_up(sleeper)
+        (self.bells.get_up(sleeper), LainDown { slept })
     }
 
     // It owes these looks until it has found an item.
