@@ -24,8 +24,8 @@ use crate::hand::{Elsewhere, Hand};
 use crate::handle::{Handle, put, take};
 use crate::schedule::hand_on;
 use task_cell::Kept;
-use task_steps::places::Held;
 use task_steps::found::{PendingEnd, keeps_output};
+use task_steps::places::Held;
 
 fn start(hand: Hand) -> (Hand, u32)
     requires hand { IsLive hand }
